@@ -1,0 +1,17 @@
+pub mod Numbers
+pub mod Meaning
+pub mod Ring
+pub mod Sum
+pub mod Series
+pub mod Mod
+pub mod Derivative
+pub mod Newton
+pub mod Halving
+pub mod Matrix
+pub mod Elimination
+pub mod Residue
+pub mod System
+pub mod Tables
+pub mod Kernel
+pub mod Equation
+pub mod Unique
