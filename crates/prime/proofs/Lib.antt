@@ -1,2 +1,2 @@
-pub mod Divisors
+pub mod Division
 pub mod Answers
