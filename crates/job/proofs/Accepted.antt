@@ -1,6 +1,5 @@
 -- What is known of a job that no check refused: its limits, the lengths of its buffers, and that the words which it
--- reads
--- are below the modulus. The theorem is `accepted`; above it stand the rules' own laws, list by list.
+-- reads are below the modulus. The theorem is `accepted`; above it stand the laws of each list of rules.
 -- Assumes nothing.
 use mathlib.Core.Path.{_≡_, refl}
 use mathlib.Core.Logic.{_≢_, inl, inr}
@@ -13,19 +12,8 @@ use lib.ListN.{length, getD}
 use Rattle.algebra.specs.Numbers.{Prime}
 use Rattle.job.specs.declared.Kind.{Kind}
 use Rattle.job.specs.declared.Kind.the-variants.{System, Basis, Equation}
-use Rattle.job.specs.Refusal.{done, Rule, rule, Says}
-use Rattle.job.specs.Job.{
-  Job,
-  Buffers,
-  listed,
-  Handed,
-  words,
-  bytes,
-  cellsOf,
-  wordAt,
-  lengthsOf,
-  readCount,
-}
+use Rattle.job.specs.Refusal.{done, Says}
+use Rattle.job.specs.Job.{Job, Buffers, listed, Handed, bytes, cellsOf, wordAt, lengthsOf, readCount}
 use Rattle.job.specs.Rules.{Outside, limitRules, sizeRules, lengthRules, wordRules, readRules, checkRules}
 use Rattle.job.proofs.Says.{says-head, says-tail, says-split}
 
@@ -125,6 +113,28 @@ length-of h b (c ∷ ls) (s ∷ ss) t zero l m = equal-stable _ _ (says-head _ _
 length-of h b (c ∷ ls) (s ∷ ss) t (suc i) l m =
     length-of h (suc b) ls ss (says-tail _ _ t) i (omega arith) (omega arith)
 
+-- a job has five lengths
+lengths-five : (kind : Kind) (r n : ℕ) → length (lengthsOf kind r n) ≡ 5
+unfolding lengthsOf
+lengths-five System r n = refl
+lengths-five Basis r n = refl
+lengths-five Equation r n = refl
+
+-- 5, for the five buffers of a job
+pub sized-of
+    : (h : Handed) (kind : Kind) (r n : ℕ) (lent : Buffers)
+    → Says (lengthRules h 1 (lengthsOf kind r n) (listed lent)) done → Sized h (lengthsOf kind r n) lent
+sized-of h kind r n lent s =
+    let five = lengths-five kind r n in
+    let sized = length-of h 1 (lengthsOf kind r n) (listed lent) s in
+    record {
+      one = sized 0 (omega arith) (omega arith);
+      two = sized 1 (omega arith) (omega arith);
+      three = sized 2 (omega arith) (omega arith);
+      four = sized 3 (omega arith) (omega arith);
+      five = sized 4 (omega arith) (omega arith);
+    }
+
 -- 6, by the place i in the list of buffers
 read-of
     : (h : Handed) (p b m : ℕ) (ls : List ℕ) (ss : List (List ℕ)) → Says (readRules h p b m ls ss) done
@@ -138,15 +148,8 @@ read-of h p b (suc m) (c ∷ ls) (s ∷ ss) t zero n l o =
 read-of h p b (suc m) (c ∷ ls) (s ∷ ss) t (suc i) n l o =
     read-of h p (suc b) m ls ss (says-split (wordRules h p b s 0 c) _ t .1) i (omega arith) (omega arith) (omega arith)
 
--- a job has five lengths
-pub lengths-five : (kind : Kind) (r n : ℕ) → length (lengthsOf kind r n) ≡ 5
-unfolding lengthsOf
-lengths-five System r n = refl
-lengths-five Basis r n = refl
-lengths-five Equation r n = refl
-
 -- the first two buffers of every job are only read
-pub reads-two : (kind : Kind) → 2 ≤ readCount kind
+reads-two : (kind : Kind) → 2 ≤ readCount kind
 unfolding readCount
 reads-two System = omega arith
 reads-two Basis = omega arith
@@ -168,18 +171,11 @@ accepted h job s =
     let first = says-split (limitRules r n p) (sizeRules h r n) (second .0) in
     let five = lengths-five (job .kind) r n in
     let two = reads-two (job .kind) in
-    let sized = length-of h 1 lengths lent (second .1) in
     let below = read-of h p 1 (readCount (job .kind)) lengths lent (third .1) in
     record {
       limits = limits-of r n p (first .0);
       small = λ e. small-of r n (rw e at (first .1));
-      lengths = record {
-        one = sized 0 (omega arith) (omega arith);
-        two = sized 1 (omega arith) (omega arith);
-        three = sized 2 (omega arith) (omega arith);
-        four = sized 3 (omega arith) (omega arith);
-        five = sized 4 (omega arith) (omega arith);
-      };
+      lengths = sized-of h (job .kind) r n (job .lent) (second .1);
       one = below 0 (omega arith) (omega arith) (omega arith);
       two = below 1 (omega arith) (omega arith) (omega arith);
       three = λ more. below 2 more (omega arith) (omega arith);

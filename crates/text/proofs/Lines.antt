@@ -161,12 +161,12 @@ lines-same (f ∷ fs) y z i a b q =
     (agree-append (f .count) (total fs) (p .0) (r .0), r .1)
 
 -- one list of forms after another
-module _ (gs : List Form) (z : ℕ → ℤ) where
-  pub total-append : (fs : List Form) → total (fs ++ gs) ≡ total fs + total gs
-  unfolding total
-  total-append [] = omega arith
-  total-append (f ∷ fs) = omega (arith, total-append fs)
+pub total-append : (fs gs : List Form) → total (fs ++ gs) ≡ total fs + total gs
+unfolding total
+total-append [] gs = omega arith
+total-append (f ∷ fs) gs = omega (arith, total-append fs gs)
 
+module _ (gs : List Form) (z : ℕ → ℤ) where
   pub lines-append : (fs : List Form) (i : ℕ) → lines (fs ++ gs) z i ≡ lines fs z i ++ lines gs z (i + total fs)
   unfolding lines total
   lines-append [] i = let e : i + 0 ≡ i = omega arith in rw e

@@ -1,0 +1,6 @@
+pub mod Judged
+pub mod Limits
+pub mod Products
+pub mod Exact
+pub mod Words
+pub mod Call

@@ -1,0 +1,286 @@
+// The checks that every call on buffers makes first: document 01's refusals 1 to 6, and for bytes 10 behind 4.
+use job::Answer;
+use job::Kind;
+ghost use mathlib.Core.Path.{_≡_};
+ghost use mathlib.Core.Logic.{_⊎_};
+ghost use mathlib.Core.List.{_++_};
+ghost use Prim.Native.Nat.{_+_, _*_, _≤_};
+ghost use lib.ListN.{length};
+ghost use Rattle.algebra.specs.Numbers.{Prime};
+ghost use Rattle.prime.specs.Test.{Decides};
+ghost use Rattle.job.specs.Job.{buffers, words, bytes, wordAt};
+ghost use Rattle.job.specs.Rules.{Outside, limitRules, sizeRules, wordRules};
+ghost use Rattle.refusal.specs.Checked.{
+  Judged,
+  jobOf,
+  Checked,
+  Bounded,
+  Measured,
+  Compared,
+  Readable,
+  ReadsJudged,
+  thirdRead,
+};
+
+fn is_outside(low: u64, high: u64, x: u64) -> bool
+    ensures { λ b. ⌜ Decides b (Outside low high x) ⌝ }
+{
+    if x < low {
+        return true;
+    }
+    high < x
+}
+
+// Is p refused as a modulus?
+fn is_no_modulus(p: u64) -> bool
+    ensures { λ b. ⌜ Decides b (Outside 2 2147483647 p ⊎ (¬ Prime p)) ⌝ }
+{
+    if is_outside(2, 2147483647, p) {
+        return true;
+    }
+    !prime::is_prime(p)
+}
+
+// 1 to 4.
+pub fn check_limits(r: u64, n: u64, p: u64) -> Answer
+    ensures { λ a. ⌜ Judged (limitRules r n p) a ⌝ }
+{
+    if is_outside(1, 8, r) {
+        return Answer::Order;
+    }
+    if is_outside(1, 4096, n) {
+        return Answer::Terms;
+    }
+    if is_no_modulus(p) {
+        return Answer::Modulus;
+    }
+    if p < n {
+        return Answer::TermsOverModulus;
+    }
+    Answer::Done
+}
+
+// 1 to 4, and 10 behind them.
+pub fn check_small(r: u64, n: u64, p: u64) -> Answer
+    ensures { λ a. ⌜ Judged (limitRules r n p ++ sizeRules bytes r n) a ⌝ }
+{
+    let before = check_limits(r, n, p);
+    let Answer::Done = before else {
+        return before;
+    };
+    if 1024 < r * r * n {
+        return Answer::Large;
+    }
+    Answer::Done
+}
+
+// The words of each buffer, by number.
+fn lengths_of(kind: Kind, r: usize, n: usize) -> [usize; 5]
+    requires { ⌜ (r ≤ 8) × (n ≤ 4096) ⌝ }
+    ensures { λ l. ⌜ Measured kind r n l ⌝ }
+{
+    let square = r * r;
+    let matrix = square * n;
+    let vector = r * n;
+    let room = 16 * matrix;
+    match kind {
+        Kind::System => [matrix, vector, r, vector, room],
+        Kind::Basis => [matrix, square, matrix, matrix, room],
+        Kind::Equation => [(r + 1) * n, n, r, n, room],
+    }
+}
+
+// 5, of buffers whose words have so many cells.
+fn check_lengths(cells: usize, should: [usize; 5], are: [usize; 5]) -> Answer
+    requires { ⌜ (cells ≤ 4) × Bounded should ⌝ }
+    ensures { λ a. ⌜ Compared cells should are a ⌝ }
+{
+    let mut i = 0;
+    while i < 5 {
+        if are[i] != cells * should[i] {
+            return Answer::Length {
+                buffer: i as u8 + 1,
+            };
+        }
+        i += 1;
+    }
+    Answer::Done
+}
+
+// 6, in the buffer with the number b, of which count words are read.
+fn check_buffer_words(p: u32, b: u8, s: &[u32], count: usize) -> Answer
+    requires { ⌜ Readable words count (now s) ⌝ }
+    ensures { λ a. ⌜ Judged (wordRules words p b (now (s .entry)) 0 count) a ⌝ }
+{
+    let mut i = 0;
+    while i < count {
+        if s[i] >= p {
+            return Answer::Word {
+                buffer: b,
+                index: i as u32,
+            };
+        }
+        i += 1;
+    }
+    Answer::Done
+}
+
+// The word of four bytes, low byte first.
+fn word_of(a: u8, b: u8, c: u8, d: u8) -> u32
+    ensures { λ w. ⌜ w ≡ a + 256 * b + 65536 * c + 16777216 * d ⌝ }
+{
+    a as u32 + 256 * (b as u32) + 65536 * (c as u32) + 16777216 * (d as u32)
+}
+
+// The word at k of a buffer of bytes.
+fn word_at(s: &[u8], k: usize) -> u32
+    requires { ⌜ 4 * k + 4 ≤ length (now s) ⌝ }
+    ensures { λ w. ⌜ w ≡ wordAt bytes (now (s .entry)) k ⌝ }
+{
+    word_of(s[4 * k], s[4 * k + 1], s[4 * k + 2], s[4 * k + 3])
+}
+
+// 6, in the buffer of bytes with the number b, of which count words are read.
+fn check_buffer_bytes(p: u32, b: u8, s: &[u8], count: usize) -> Answer
+    requires { ⌜ Readable bytes count (now s) ⌝ }
+    ensures { λ a. ⌜ Judged (wordRules bytes p b (now (s .entry)) 0 count) a ⌝ }
+{
+    let mut k = 0;
+    while k < count {
+        if word_at(s, k) >= p {
+            return Answer::Word {
+                buffer: b,
+                index: k as u32,
+            };
+        }
+        k += 1;
+    }
+    Answer::Done
+}
+
+// How many words of the third buffer are read, which has so many.
+fn third_read(kind: Kind, count: usize) -> usize
+    ensures { λ m. ⌜ m ≡ thirdRead kind count ⌝ }
+{
+    match kind {
+        Kind::System => count,
+        Kind::Basis => 0,
+        Kind::Equation => count,
+    }
+}
+
+// 6, in three buffers, of which k, l and m words are read.
+fn check_reads_words(
+    p: u32,
+    one: &[u32],
+    k: usize,
+    two: &[u32],
+    l: usize,
+    three: &[u32],
+    m: usize,
+) -> Answer
+    requires { ⌜ Readable words k (now one) × Readable words l (now two) × Readable words m (now three) ⌝ }
+    ensures { λ a. ⌜ ReadsJudged words p (now (one .entry)) k (now (two .entry)) l (now (three .entry)) m a ⌝ }
+{
+    let first = check_buffer_words(p, 1, one, k);
+    let Answer::Done = first else {
+        return first;
+    };
+    let second = check_buffer_words(p, 2, two, l);
+    let Answer::Done = second else {
+        return second;
+    };
+    check_buffer_words(p, 3, three, m)
+}
+
+// 6, in three buffers of bytes, of which k, l and m words are read.
+fn check_reads_bytes(
+    p: u32,
+    one: &[u8],
+    k: usize,
+    two: &[u8],
+    l: usize,
+    three: &[u8],
+    m: usize,
+) -> Answer
+    requires { ⌜ Readable bytes k (now one) × Readable bytes l (now two) × Readable bytes m (now three) ⌝ }
+    ensures { λ a. ⌜ ReadsJudged bytes p (now (one .entry)) k (now (two .entry)) l (now (three .entry)) m a ⌝ }
+{
+    let first = check_buffer_bytes(p, 1, one, k);
+    let Answer::Done = first else {
+        return first;
+    };
+    let second = check_buffer_bytes(p, 2, two, l);
+    let Answer::Done = second else {
+        return second;
+    };
+    check_buffer_bytes(p, 3, three, m)
+}
+
+// 1 to 6, on words.
+pub fn check_words(
+    kind: Kind,
+    r: u64,
+    n: u64,
+    p: u64,
+    one: &[u32],
+    two: &[u32],
+    three: &[u32],
+    four: &[u32],
+    five: &[u32],
+) -> Answer
+    ensures { λ a. ⌜ Checked words
+        (jobOf kind r n p
+        (buffers (now (one .entry)) (now (two .entry)) (now (three .entry)) (now (four .entry)) (now (five .entry))))
+        a ⌝ }
+{
+    let limits = check_limits(r, n, p);
+    let Answer::Done = limits else {
+        return limits;
+    };
+    let l = lengths_of(kind, r as usize, n as usize);
+    let exact = check_lengths(
+        1,
+        l,
+        [one.len(), two.len(), three.len(), four.len(), five.len()],
+    );
+    let Answer::Done = exact else {
+        return exact;
+    };
+    let m = third_read(kind, l[2]);
+    check_reads_words(p as u32, one, l[0], two, l[1], three, m)
+}
+
+// 1 to 6, on bytes, with 10 behind 4.
+pub fn check_bytes(
+    kind: Kind,
+    r: u64,
+    n: u64,
+    p: u64,
+    one: &[u8],
+    two: &[u8],
+    three: &[u8],
+    four: &[u8],
+    five: &[u8],
+) -> Answer
+    ensures { λ a. ⌜ Checked bytes
+        (jobOf kind r n p
+        (buffers (now (one .entry)) (now (two .entry)) (now (three .entry)) (now (four .entry)) (now (five .entry))))
+        a ⌝ }
+{
+    let limits = check_small(r, n, p);
+    let Answer::Done = limits else {
+        return limits;
+    };
+    let l = lengths_of(kind, r as usize, n as usize);
+    let exact = check_lengths(
+        4,
+        l,
+        [one.len(), two.len(), three.len(), four.len(), five.len()],
+    );
+    let Answer::Done = exact else {
+        return exact;
+    };
+    let m = third_read(kind, l[2]);
+    check_reads_bytes(p as u32, one, l[0], two, l[1], three, m)
+}
