@@ -1,0 +1,9 @@
+pub mod Rows
+pub mod Identity
+pub mod Reached
+pub mod Pivot
+pub mod Column
+pub mod Columns
+pub mod Reduction
+pub mod Answer
+pub mod Unique

@@ -1,0 +1,2 @@
+pub mod Square
+pub mod Steps
