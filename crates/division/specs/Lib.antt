@@ -1,0 +1,3 @@
+-- `Division` is what callers read; `Steps` is what the private functions promise.
+pub mod Division
+pub mod Steps
