@@ -1,4 +1,5 @@
 // The checks that every call on buffers makes first: document 01's refusals 1 to 6, and for bytes 10 behind 4.
+// Nothing is read before all lengths are known to be right.
 use job::Answer;
 use job::Kind;
 ghost use mathlib.Core.Path.{_≡_};
@@ -22,6 +23,7 @@ ghost use Rattle.refusal.specs.Checked.{
   thirdRead,
 };
 
+// Is x outside low..high?
 fn is_outside(low: u64, high: u64, x: u64) -> bool
     ensures { λ b. ⌜ Decides b (Outside low high x) ⌝ }
 {
@@ -41,7 +43,7 @@ fn is_no_modulus(p: u64) -> bool
     !prime::is_prime(p)
 }
 
-// 1 to 4.
+// Refusals 1 to 4: order, terms, modulus, terms over the modulus.
 pub fn check_limits(r: u64, n: u64, p: u64) -> Answer
     ensures { λ a. ⌜ Judged (limitRules r n p) a ⌝ }
 {
@@ -60,7 +62,7 @@ pub fn check_limits(r: u64, n: u64, p: u64) -> Answer
     Answer::Done
 }
 
-// 1 to 4, and 10 behind them.
+// Refusals 1 to 4, and behind them 10: more than a byte job may have.
 pub fn check_small(r: u64, n: u64, p: u64) -> Answer
     ensures { λ a. ⌜ Judged (limitRules r n p ++ sizeRules bytes r n) a ⌝ }
 {
@@ -90,7 +92,7 @@ fn lengths_of(kind: Kind, r: usize, n: usize) -> [usize; 5]
     }
 }
 
-// 5, of buffers whose words have so many cells.
+// Refusal 5, of buffers whose words have so many cells: the lengths that should be, and those that are.
 fn check_lengths(cells: usize, should: [usize; 5], are: [usize; 5]) -> Answer
     requires { ⌜ (cells ≤ 4) × Bounded should ⌝ }
     ensures { λ a. ⌜ Compared cells should are a ⌝ }
@@ -107,7 +109,7 @@ fn check_lengths(cells: usize, should: [usize; 5], are: [usize; 5]) -> Answer
     Answer::Done
 }
 
-// 6, in the buffer with the number b, of which count words are read.
+// Refusal 6, in the buffer with the number b, of which count words are read.
 fn check_buffer_words(p: u32, b: u8, s: &[u32], count: usize) -> Answer
     requires { ⌜ Readable words count (now s) ⌝ }
     ensures { λ a. ⌜ Judged (wordRules words p b (now (s .entry)) 0 count) a ⌝ }
@@ -140,7 +142,7 @@ fn word_at(s: &[u8], k: usize) -> u32
     word_of(s[4 * k], s[4 * k + 1], s[4 * k + 2], s[4 * k + 3])
 }
 
-// 6, in the buffer of bytes with the number b, of which count words are read.
+// Refusal 6, in the buffer of bytes with the number b, of which count words are read.
 fn check_buffer_bytes(p: u32, b: u8, s: &[u8], count: usize) -> Answer
     requires { ⌜ Readable bytes count (now s) ⌝ }
     ensures { λ a. ⌜ Judged (wordRules bytes p b (now (s .entry)) 0 count) a ⌝ }
@@ -169,7 +171,7 @@ fn third_read(kind: Kind, count: usize) -> usize
     }
 }
 
-// 6, in three buffers, of which k, l and m words are read.
+// Refusal 6, in the first three buffers, of which k, l and m words are read.
 fn check_reads_words(
     p: u32,
     one: &[u32],
@@ -193,7 +195,7 @@ fn check_reads_words(
     check_buffer_words(p, 3, three, m)
 }
 
-// 6, in three buffers of bytes, of which k, l and m words are read.
+// Refusal 6, in the first three buffers of bytes, of which k, l and m words are read.
 fn check_reads_bytes(
     p: u32,
     one: &[u8],
@@ -217,7 +219,7 @@ fn check_reads_bytes(
     check_buffer_bytes(p, 3, three, m)
 }
 
-// 1 to 6, on words.
+// Refusals 1 to 6, on words.
 pub fn check_words(
     kind: Kind,
     r: u64,
@@ -251,7 +253,7 @@ pub fn check_words(
     check_reads_words(p as u32, one, l[0], two, l[1], three, m)
 }
 
-// 1 to 6, on bytes, with 10 behind 4.
+// Refusals 1 to 6, on bytes, with 10 behind 4.
 pub fn check_bytes(
     kind: Kind,
     r: u64,

@@ -20,8 +20,6 @@ use Rattle.refusal.proofs.Call.{
 }
 use Rattle.refusal.proofs.check_bytes.Statement.{statement}
 use Rattle.refusal.proofs.check_bytes.Tie as tie
-use Rattle.refusal.proofs.check_bytes.Reads as reads
-use Rattle.refusal.proofs.check_bytes.Lts as lts
 
 -- the job that is handed over
 abbrev given : tie.After-shared-slice-known5 → Job

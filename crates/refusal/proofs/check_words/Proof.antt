@@ -20,8 +20,6 @@ use Rattle.refusal.proofs.Call.{
 }
 use Rattle.refusal.proofs.check_words.Statement.{statement}
 use Rattle.refusal.proofs.check_words.Tie as tie
-use Rattle.refusal.proofs.check_words.Reads as reads
-use Rattle.refusal.proofs.check_words.Lts as lts
 
 -- the job that is handed over
 abbrev given : tie.After-shared-slice-known5 → Job

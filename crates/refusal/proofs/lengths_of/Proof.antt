@@ -6,8 +6,6 @@ use Rattle.job.specs.Job.{carried, roomOf, lengthsOf}
 use Rattle.refusal.proofs.Products.{square-small, matrix-small, vector-small, rows-small, measured}
 use Rattle.refusal.proofs.lengths_of.Statement.{statement}
 use Rattle.refusal.proofs.lengths_of.Tie as tie
-use Rattle.refusal.proofs.lengths_of.Reads as reads
-use Rattle.refusal.proofs.lengths_of.Lts as lts
 
 mul-square : tie.Need-mul-square
 mul-square c = record { fits = omega (arith, square-small (c .pre .0)) }
