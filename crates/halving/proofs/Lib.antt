@@ -1,0 +1,13 @@
+pub mod Runs
+pub mod Words
+pub mod Row
+pub mod Rows
+pub mod Rest
+pub mod Turned
+pub mod Scaled
+pub mod Passed
+pub mod Halves
+pub mod Solved
+pub mod Loads
+pub mod Jobs
+pub mod Outcomes
