@@ -1,0 +1,159 @@
+-- The verdict on a call and its outcome: the checks and then rule 8; an accepted call has buffers that can be run; a
+-- refused call changes nothing, and one that was run is done.
+-- Assumes nothing.
+use mathlib.Core.Path.{_≡_, refl, sym, subst, _∙_}
+use mathlib.Core.Logic.{_≢_}
+use mathlib.Core.List.{List}
+use Prim.Native.Nat.{ℕ, _+_, _*_, _<_, _≤_}
+use native.Mathlib.Nat.{add-zero, mul-le-mul}
+use native.Mathlib.Decide.{decLt}
+use native.Mathlib.Omega.{arith}
+use lib.ListN.{length, getD, List·getD-eq-default}
+use Rattle.residue.specs.declared.Modulus.{Modulus}
+use Rattle.residue.specs.Sums.{SmallModulus, IsModulus}
+use Rattle.job.specs.declared.Answer.{Answer}
+use Rattle.job.specs.declared.Answer.the-variants.{Done, LeadingZero}
+use Rattle.job.specs.declared.Kind.the-variants.{Equation}
+use Rattle.job.specs.Refusal.{done, Says, verdictOf}
+use Rattle.job.specs.Job.{Job, Buffers, buffers, words, wordAt, seriesAt, carried, roomOf, lengthsOf, readCount}
+use Rattle.job.specs.Rules.{checkRules, kindRules, callRules}
+use Rattle.job.specs.Outcome.{Filled, Solved, Outcome}
+use Rattle.job.proofs.Says.{
+  refused-not-done,
+  says-none,
+  says-here,
+  says-past,
+  says-head,
+  says-split,
+  OtherThanDone,
+  answer-other,
+}
+use Rattle.job.proofs.Accepted.{Accepted, accepted}
+use Rattle.refusal.specs.Checked.{Checked, Judged, jobOf}
+use Rattle.refusal.proofs.Judged.{judged-next, judged-stop}
+use Rattle.halving.proofs.Rows.{rows-le}
+use Rattle.equation.specs.Equation.{Ready, Ran}
+
+-- a refused call, of any kind
+pub outcome-refused : (job : Job) {answer : Answer} → Judged (callRules words job) answer → OtherThanDone answer
+    → Outcome words job answer (job .lent)
+outcome-refused job {answer} judged other = record {
+  verdict = judged .says;
+  kept = λ number first second e. refl;
+  solved = λ e. absurd (answer-other answer other e);
+  cleared = λ e. absurd (answer-other answer other e);
+}
+
+module _ (r n p : ℕ) (lent : Buffers) where
+  -- the first coefficient of a_r
+  abbrev leadOf : ℕ
+  leadOf = getD (lent .one) (r * n) 0
+
+  lead-place : seriesAt words (carried Equation n) (lent .one) 0 r ≡ leadOf
+  unfolding seriesAt wordAt carried
+  lead-place = rw add-zero
+
+  module _ {answer : Answer} (checked : Checked words (jobOf Equation r n p lent) answer) where
+    -- the checks refuse
+    pub check-refused : OtherThanDone answer → Judged (callRules words (jobOf Equation r n p lent)) answer
+    unfolding callRules
+    check-refused other = judged-stop (kindRules words Equation r n p lent) checked other
+
+    -- the checks do not, and rule 8 does
+    pub check-zero : answer ≡ Done → leadOf ≡ 0 → Judged (callRules words (jobOf Equation r n p lent)) LeadingZero
+    unfolding callRules kindRules verdictOf
+    check-zero e zero =
+        judged-next checked e (record { says = says-here _ _ (lead-place ∙ zero) })
+
+    -- neither does
+    pub check-done : answer ≡ Done → leadOf ≢ 0 → Judged (callRules words (jobOf Equation r n p lent)) Done
+    unfolding callRules kindRules verdictOf
+    check-done e some =
+        judged-next checked e (record { says = says-past _ _ done (λ z. some (sym lead-place ∙ z)) says-none })
+
+-- the words that are used of a room are fewer than it has
+room-enough : (r n : ℕ) → 1 ≤ r → (3 * r + 1) * n + r * r * n ≤ 16 * (r * r * n)
+room-enough r n some =
+    let square : 1 * r ≤ r * r = rows-le r 1 r some in
+    omega (arith, rows-le (r * r) r n (omega arith), rows-le (r * r) 1 n (omega arith))
+
+-- an accepted call
+module _ {r n p : ℕ} {a b start y w : List ℕ} (given : Accepted words (jobOf Equation r n p (buffers a b start y w)))
+  where
+    -- the sizes of a, as words and as numbers of them
+    pub lead-inside : (r * n ≤ 32768) × (r * n < length a)
+    unfolding lengthsOf carried
+    lead-inside = (
+      mul-le-mul (given .limits .order) (given .limits .terms),
+      omega (arith, given .lengths .one, given .limits .terms-least),
+    )
+
+    pub modulus-small : SmallModulus p
+    modulus-small = record {
+      some = omega (arith, given .limits .prime .two);
+      half = omega (arith, given .limits .half);
+    }
+
+    ready : {q : Modulus} → IsModulus q p → getD a (r * n) 0 ≢ 0 → Ready q r n a b start y w
+    unfolding lengthsOf carried roomOf readCount wordAt
+    ready {q} modulus lead = record {
+      modulus = subst (λ (x : ℕ). IsModulus q x) (sym (modulus .self)) modulus;
+      prime = rw (modulus .self) (given .limits .prime);
+      order-least = given .limits .order-least;
+      order = given .limits .order;
+      terms-least = given .limits .terms-least;
+      terms = given .limits .terms;
+      few = rw (modulus .self) (given .limits .few);
+      one = omega (arith, given .lengths .one);
+      two = omega (arith, given .lengths .two);
+      three = omega (arith, given .lengths .three);
+      four = omega (arith, given .lengths .four);
+      five = omega (arith, given .lengths .five, room-enough r n (given .limits .order-least));
+      below-one = rw (modulus .self) (given .one .below);
+      below-two = rw (modulus .self) (given .two .below);
+      below-three = rw (modulus .self) (given .three (omega arith) .below);
+      lead = lead;
+    }
+
+-- a call that neither the checks nor rule 8 refuse
+module _ {r n p : ℕ} {a b start y w : List ℕ}
+    (says : Says (callRules words (jobOf Equation r n p (buffers a b start y w))) done)
+  where
+    pub call-accepted : Accepted words (jobOf Equation r n p (buffers a b start y w))
+    unfolding callRules
+    call-accepted =
+        accepted words _ (says-split (checkRules words (jobOf Equation r n p (buffers a b start y w))) _ says .0)
+
+    pub call-ready : {q : Modulus} → IsModulus q p → Ready q r n a b start y w
+    unfolding callRules kindRules
+    call-ready modulus =
+        let own = says-split (checkRules words (jobOf Equation r n p (buffers a b start y w))) _ says .1 in
+        ready call-accepted modulus (λ z. says-head _ _ own (lead-place r n p (buffers a b start y w) ∙ z))
+
+    pub outcome-done : {q : Modulus} {y′ w′ : List ℕ} → IsModulus q p → length y′ ≡ length y → length w′ ≡ length w
+        → Ran (q .p) r n a b start y′ w′
+        → Outcome words (jobOf Equation r n p (buffers a b start y w)) Done (buffers a b start y′ w′)
+    unfolding verdictOf Solved carried seriesAt wordAt lengthsOf
+    outcome-done {q} {y′} {w′} modulus leny lenw h = record {
+      verdict = says;
+      kept = λ number first second e. absurd (refused-not-done number first second (sym e));
+      solved = λ e. (refl, refl, refl, filled, rw (modulus .self) at (h .series));
+      cleared = λ e. record { len = lenw; zeros = h .cleared .zeros };
+    }
+      where
+        four : length y′ ≡ n
+        four = omega (arith, leny, call-accepted .lengths .four)
+
+        small : (k : ℕ) → k < n → getD y′ k 0 < p
+        small k l = rw (modulus .self) at (h .below k l)
+
+        filled : Filled words p n y y′
+        filled = record {
+          len = leny;
+          cells = λ k.
+              elim (decLt k n) [
+                | yes l ↦ omega (arith, small k l, call-accepted .limits .half)
+                | no l ↦ rw (List·getD-eq-default y′ 0 {n = k} (omega (arith, four))) (omega arith)
+              ];
+          below = small;
+        }

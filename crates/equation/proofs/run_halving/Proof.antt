@@ -1,0 +1,125 @@
+-- `equation::run_halving` meets its contract: the room is cleared, gets the equation's system, and is solved; the first
+-- unknown is handed over, and the room cleared again.
+-- Assumes nothing.
+use native.Mathlib.Omega.{arith}
+use borrow.Author.Needs.{needs}
+use Rattle.equation.specs.Equation.{Ready}
+use Rattle.equation.proofs.Solves.{rows-small, ready-translatable, starts-inside, ready-solvable, ran}
+use Rattle.equation.proofs.run_halving.Statement.{statement}
+use Rattle.equation.proofs.run_halving.Tie as tie
+
+-- what is given, from the place behind the first clearing
+abbrev given : (c : tie.After-clear)
+    → let s = c .before .before .before .before .before .before .before .args in
+    Ready (s .q) (s .r) (s .n) (s .a .now) (s .b .now) (s .start .now) (s .y .now) (s .work .now)
+given c = c .before .before .before .before .before .before .before .pre
+
+-- the earlier calls, each from the next
+abbrev cleared : tie.After-translate → tie.After-clear
+cleared c = c .before .before .before .before
+
+abbrev translated : tie.After-spread-starts → tie.After-translate
+translated c = c .before .before .before .before
+
+abbrev started : tie.After-solve-rows → tie.After-spread-starts
+started c = c .before .before .before .before
+
+clear-requires : tie.Need-clear-requires
+clear-requires c κs = search needs
+
+mul-translate : tie.Need-mul-translate
+mul-translate c = search needs
+
+add-translate : tie.Need-add-translate
+add-translate c = search needs
+
+mul-translate-2 : tie.Need-mul-translate-2
+mul-translate-2 c = search needs
+
+sub-translate : tie.Need-sub-translate
+sub-translate c = search needs
+
+mul-translate-3 : tie.Need-mul-translate-3
+mul-translate-3 c = omega (arith, rows-small (given (c .before .before .before)))
+
+add-translate-2 : tie.Need-add-translate-2
+add-translate-2 c = omega (arith, rows-small (given (c .before .before .before)))
+
+mul-translate-4 : tie.Need-mul-translate-4
+mul-translate-4 c = search needs
+
+mul-translate-5 : tie.Need-mul-translate-5
+mul-translate-5 c = search needs
+
+translate-requires : tie.Need-translate-requires
+translate-requires c κs =
+    let zeros = c .before .before .before in
+    ready-translatable (given zeros) (zeros .clear .kept .0) (zeros .clear .ensures)
+
+spread-starts-requires : tie.Need-spread-starts-requires
+spread-starts-requires c κs =
+    let system = c .before .before .before in
+    let zeros = cleared system in (
+      given zeros .three,
+      starts-inside (given zeros) (zeros .clear .kept .0) (zeros .clear .ensures)
+          (system .translate .kept .1 .1 .1 .1 .1 .0) (system .translate .ensures),
+    )
+
+solve-rows-requires : tie.Need-solve-rows-requires
+solve-rows-requires c κs =
+    let starts = c .before .before .before in
+    let system = translated starts in
+    let zeros = cleared system in
+    ready-solvable (given zeros) (zeros .clear .kept .0) (zeros .clear .ensures)
+    (system .translate .kept .1 .1 .1 .1 .1 .0) (system .translate .ensures) (starts .spread-starts .kept .1 .1 .0)
+    (starts .spread-starts .ensures)
+
+mul-copy : tie.Need-mul-copy
+mul-copy c = omega (arith, rows-small (given (cleared (translated (started (c .before .before .before))))))
+
+copy-requires : tie.Need-copy-requires
+copy-requires c κs = search needs
+
+clear-requires-2 : tie.Need-clear-requires-2
+clear-requires-2 c κs = search needs
+
+same-length : tie.Need-same-length
+same-length c = search needs
+
+same-length-2 : tie.Need-same-length-2
+same-length-2 c = search needs
+
+returns : tie.Need-returns
+returns c =
+    let last = c .before .before in
+    let copied = last .before .before .before .before in
+    let solved = copied .before .before .before .before .before in
+    let starts = started solved in
+    let system = translated starts in
+    let zeros = cleared system in
+    ran (given zeros) (zeros .clear .kept .0) (zeros .clear .ensures)
+    (system .translate .kept .1 .1 .1 .1 .1 .0) (system .translate .ensures) (starts .spread-starts .kept .1 .1 .0)
+    (starts .spread-starts .ensures) (solved .solve-rows .ensures) (copied .copy .ensures) (last .clear2 .ensures)
+
+pub run-halving-spec : {M : Type 1} → statement M
+run-halving-spec =
+    tie.close
+    (tie.spec
+    clear-requires
+    mul-translate
+    add-translate
+    mul-translate-2
+    sub-translate
+    mul-translate-3
+    add-translate-2
+    mul-translate-4
+    mul-translate-5
+    translate-requires
+    spread-starts-requires
+    solve-rows-requires
+    mul-copy
+    copy-requires
+    clear-requires-2
+    same-length
+    same-length-2
+    returns)
