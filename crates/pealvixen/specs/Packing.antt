@@ -1,4 +1,5 @@
--- The answer as one number, for callers in other languages: number + 2^8 * first place + 2^32 * second place; 0 is done.
+-- The answer as one number, for callers in other languages: number + 2^8 * first place + 2^32 * second place; 0 is
+-- done.
 -- Assumes nothing.
 use mathlib.Core.Path.{_≡_, refl}
 use Prim.Native.Nat.{ℕ, _+_, _*_}
