@@ -30,7 +30,9 @@ const P: u32 = 2147483647;
 fn random_words(seed: &mut u64, count: usize) -> Vec<u32> {
     (0..count)
         .map(|_| {
-            *seed = seed.wrapping_mul(6364136223846793005).wrapping_add(1442695040888963407);
+            *seed = seed
+                .wrapping_mul(6364136223846793005)
+                .wrapping_add(1442695040888963407);
             ((*seed >> 33) % P as u64) as u32
         })
         .collect()
@@ -73,7 +75,9 @@ fn halving(job: &System, y: &mut [u32], work: &mut [u32]) {
 
 fn main() {
     println!("p = {P}; microseconds, best of many runs");
-    println!("| r | N | halving | naive, conditional subtraction | ratio | naive, same sums | ratio |");
+    println!(
+        "| r | N | halving | naive, conditional subtraction | ratio | naive, same sums | ratio |"
+    );
     println!("|---|---|---|---|---|---|---|");
     let mut seed = 1u64;
     for r in [1usize, 2, 4, 8] {
@@ -94,8 +98,15 @@ fn main() {
             let h = best(|| halving(&job, &mut y, &mut work));
             let s = best(|| naive::by_subtraction(&job, &mut plain));
             let t = best(|| naive::by_totals(&job, &mut summed, &mut back));
-            assert!(y == plain && y == summed, "the three differ at r = {r}, N = {n}");
-            println!("| {r} | {n} | {h:.1} | {s:.1} | {:.3} | {t:.1} | {:.3} |", h / s, h / t);
+            assert!(
+                y == plain && y == summed,
+                "the three differ at r = {r}, N = {n}"
+            );
+            println!(
+                "| {r} | {n} | {h:.1} | {s:.1} | {:.3} | {t:.1} | {:.3} |",
+                h / s,
+                h / t
+            );
         }
     }
 }
