@@ -1,7 +1,6 @@
 -- A call has one outcome: the answer and every lent cell afterwards follow from the input. The verdict is that of one
--- list
--- of rules; after a refusal the cells are what they were; after success the results are words below p that satisfy the
--- meaning, which has at most one solution, and the work room is zero.
+-- list of rules; after a refusal the cells are what they were; after success the results are words below p that
+-- satisfy the meaning, which has at most one solution, and the work room is zero.
 -- Assumes nothing.
 use mathlib.Core.Path.{_≡_, refl, sym, ap, _∙_}
 use mathlib.Core.Logic.{_≢_}
