@@ -5,7 +5,7 @@ use mathlib.Core.Path.{_≡_, refl, sym, subst, _∙_}
 use mathlib.Core.Logic.{_≢_}
 use mathlib.Core.List.{List}
 use Prim.Native.Nat.{ℕ, _+_, _*_, _<_, _≤_}
-use native.Mathlib.Nat.{add-zero, mul-le-mul}
+use native.Mathlib.Nat.{add-zero, mul-le-mul, mul-le-mul-left}
 use native.Mathlib.Decide.{decLt}
 use native.Mathlib.Omega.{arith}
 use lib.ListN.{length, getD, List·getD-eq-default}
@@ -80,10 +80,11 @@ room-enough r n some =
 -- an accepted call
 module _ {r n p : ℕ} {a b start y w : List ℕ} (given : Accepted words (jobOf Equation r n p (buffers a b start y w)))
   where
-    -- the sizes of a, as words and as numbers of them
-    pub lead-inside : (r * n ≤ 32768) × (r * n < length a)
+    -- the order, the place of the first coefficient of a_r, and the words of a
+    pub lead-inside : (r ≤ r * n) × (r * n ≤ 32768) × (r * n < length a)
     unfolding lengthsOf carried
     lead-inside = (
+      omega (arith, mul-le-mul-left r (given .limits .terms-least)),
       mul-le-mul (given .limits .order) (given .limits .terms),
       omega (arith, given .lengths .one, given .limits .terms-least),
     )

@@ -140,7 +140,8 @@ fn check(
     let Answer::Done = answer else {
         return answer;
     };
-    let lead = r as usize * (n as usize);
+    let order = r as usize;
+    let lead = order * (n as usize);
     if a[lead] == 0 {
         return Answer::LeadingZero;
     }
