@@ -1,0 +1,13 @@
+pub mod Ladder
+pub mod Tables
+pub mod Inverse
+pub mod Solution
+pub mod Copied
+pub mod Rooms
+pub mod Refining
+pub mod Advancing
+pub mod Rounds
+pub mod Climbing
+pub mod Found
+pub mod Variation
+pub mod Varying

@@ -1,0 +1,77 @@
+-- `newton::system` meets its contract: what the checks refuse is refused, and a job that they accept is run.
+-- Assumes nothing.
+use Rattle.job.specs.Job.{buffers, words}
+use Rattle.job.specs.declared.Kind.the-variants.{System}
+use Rattle.job.proofs.Accepted.{Accepted, accepted}
+use Rattle.refusal.specs.Checked.{jobOf}
+use Rattle.refusal.proofs.Judged.{judged-done}
+use Rattle.newton.proofs.Outcomes.{outcome-refused, system-modulus, system-ready, system-done}
+use native.Mathlib.Omega.{arith}
+use borrow.Author.Needs.{needs}
+use Rattle.newton.proofs.system.Statement.{statement}
+use Rattle.newton.proofs.system.Tie as tie
+
+check-words-requires : tie.Need-check-words-requires
+check-words-requires c κs = search needs
+
+enum-told : tie.Need-enum-told
+enum-told c = search needs
+
+same-length : tie.Need-same-length
+same-length c = search needs
+
+same-length-2 : tie.Need-same-length-2
+same-length-2 c = search needs
+
+returns : tie.Need-returns
+returns c = outcome-refused _ (c .before .check-words .ensures) (c .match .keys2)
+
+-- the checks accept the job
+admitted : (c : tie.After-enum-told)
+    → let s = c .before .before .before .before .before .before .before .before .before .before .args in
+    Accepted words
+    (jobOf System (s .r) (s .n) (s .p) (buffers (s .a .now) (s .b .now) (s .v .now) (s .y .now) (s .work .now)))
+admitted c = accepted words _ (judged-done (c .before .before .check-words .ensures) (c .enum-told .given .1))
+
+cast-make-modulus : tie.Need-cast-make-modulus
+cast-make-modulus c = omega (arith, system-modulus (admitted c) .half)
+
+make-modulus-requires : tie.Need-make-modulus-requires
+make-modulus-requires c κs = system-modulus (admitted c)
+
+run-system-requires : tie.Need-run-system-requires
+run-system-requires c κs =
+    let made = c .before .before in
+    system-ready (admitted (made .before)) (made .make-modulus .ensures)
+
+same-length-3 : tie.Need-same-length-3
+same-length-3 c = search needs
+
+same-length-4 : tie.Need-same-length-4
+same-length-4 c = search needs
+
+returns-2 : tie.Need-returns-2
+returns-2 c =
+    let ran = c .before .before .before .before in
+    let made = ran .before .before .before in
+    let told = made .before in
+    system-done (admitted told)
+    (judged-done (told .before .before .check-words .ensures) (told .enum-told .given .1))
+    (made .make-modulus .ensures) (ran .run-system .kept .1 .1 .1 .1 .1 .1 .0)
+    (ran .run-system .kept .1 .1 .1 .1 .1 .1 .1 .0) (ran .run-system .ensures)
+
+pub system-spec : {M : Type 1} → statement M
+system-spec =
+    tie.close
+    (tie.spec
+    check-words-requires
+    enum-told
+    same-length
+    same-length-2
+    returns
+    cast-make-modulus
+    make-modulus-requires
+    run-system-requires
+    same-length-3
+    same-length-4
+    returns-2)
