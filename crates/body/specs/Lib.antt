@@ -1,0 +1,2 @@
+pub mod JobLines
+pub mod Parts

@@ -1,0 +1,10 @@
+pub mod Products
+pub mod Forms
+pub mod Shift
+pub mod Room
+pub mod Turns
+pub mod Sheets
+pub mod Checks
+pub mod Sizes
+pub mod Unique
+pub mod IsSheet

@@ -1,0 +1,3 @@
+pub mod ResultSheet
+pub mod Write
+pub mod Print

@@ -1,0 +1,140 @@
+-- Which rule decides before the lines behind line 1 are read: rooms, bytes, line 1, limits.
+-- Assumes nothing.
+use mathlib.Core.Path.{_≡_, refl, sym, subst, _∙_}
+use mathlib.Core.Logic.{_≢_}
+use mathlib.Core.List.{List, [], _∷_, _++_}
+use Prim.Native.Nat.{ℕ, _<_, _≤_}
+use native.Mathlib.Decide.{ℕ-discrete}
+use native.Mathlib.Omega.{arith}
+use lib.IntN.{pos}
+use lib.ListN.{length}
+use Rattle.job.specs.declared.Kind.{Kind}
+use Rattle.job.specs.declared.Kind.the-variants.{System, Basis, Equation}
+use Rattle.job.specs.declared.Answer.{Answer}
+use Rattle.job.specs.declared.Answer.the-variants.{Done, Length, Large}
+use Rattle.job.specs.Refusal.{Verdict, done, Says, verdictOf}
+use Rattle.job.specs.Job.{bytes}
+use Rattle.job.specs.Rules.{limitRules, sizeRules, lengthRules}
+use Rattle.job.proofs.Says.{
+  says-none,
+  says-here,
+  says-past,
+  says-head,
+  says-tail,
+  refused-not-done,
+  OtherThanDone,
+  answer-other,
+}
+use Rattle.refusal.specs.Checked.{Judged}
+use Rattle.refusal.proofs.Judged.{judged-done}
+use Rattle.lines.specs.declared.Cursor.{Cursor}
+use Rattle.header.specs.declared.Header.{Header}
+use Rattle.header.specs.declared.Opening.{Opening}
+use Rattle.header.specs.declared.Opening.the-variants as opening
+use Rattle.sheet.specs.declared.Start.the-variants as start
+use Rattle.sheet.specs.declared.Reading.the-variants.{Refused, Broken}
+use Rattle.header.specs.Header.{wordOf}
+use Rattle.sheet.specs.Sheet.{Keeps}
+use Rattle.sheet.specs.JobSheet.{jobForms}
+use Rattle.sheet.specs.Rules.{readVerdict, roomRules, openRules}
+use Rattle.header.specs.Opened.{Opens, OpenedAs}
+use Rattle.sheet.specs.Parts.{RoomsChecked, Roomy, Opened, Started}
+
+-- rooms of another length
+module _ {a b c : ℕ} where
+  pub rooms-first : (a ≡ 2048 → ⊥) → RoomsChecked a b c (Length 1)
+  unfolding roomRules lengthRules verdictOf
+  rooms-first n = record {
+    says = λ rooms one two three e f g h. rw e (says-here _ _ (λ q. n (sym f ∙ q)));
+  }
+
+  module _ (x : a ≡ 2048) where
+    pub rooms-second : (b ≡ 2048 → ⊥) → RoomsChecked a b c (Length 2)
+    unfolding roomRules lengthRules verdictOf
+    rooms-second n = record {
+      says = λ rooms one two three e f g h. rw e
+          (says-past _ _ _ (λ q. q (f ∙ x)) (says-here _ _ (λ q. n (sym g ∙ q))));
+    }
+
+    module _ (y : b ≡ 2048) where
+      pub rooms-third : (c ≡ 2048 → ⊥) → RoomsChecked a b c (Length 3)
+      unfolding roomRules lengthRules verdictOf
+      rooms-third n = record {
+        says = λ rooms one two three e f g h. rw e
+            (says-past _ _ _ (λ q. q (f ∙ x)) (says-past _ _ _ (λ q. q (g ∙ y)) (says-here _ _ (λ q. n (sym h ∙ q)))));
+      }
+
+      pub rooms-done : c ≡ 2048 → RoomsChecked a b c Done
+      unfolding roomRules lengthRules verdictOf
+      rooms-done z = record {
+        says = λ rooms one two three e f g h. rw e
+            (says-past _ _ _ (λ q. q (f ∙ x))
+            (says-past _ _ _ (λ q. q (g ∙ y)) (says-past _ _ _ (λ q. q (h ∙ z)) says-none)));
+      }
+
+-- rooms that nothing refuses
+pub rooms-roomy : (one two three : List ℕ) → Says (roomRules (one ∷ two ∷ three ∷ [])) done → Roomy one two three
+unfolding roomRules lengthRules
+rooms-roomy one two three s =
+    let t = says-tail _ _ s in
+    record {
+      first = equal (length one) (says-head _ _ s);
+      second = equal (length two) (says-head _ _ t);
+      third = equal (length three) (says-head _ _ (says-tail _ _ t));
+    }
+  where
+    equal : (n : ℕ) → ¬ (n ≢ 2048) → n ≡ 2048
+    equal n q = elim (ℕ-discrete n 2048) [ yes e ↦ e | no e ↦ absurd (q e) ]
+
+-- a header found for one kind
+pub opened-is : (s : List ℕ) (kind : Kind) (r : Opening) (h : Header) (c : Cursor) → r ≡ opening.Is h c
+    → OpenedAs kind (wordOf kind) s r → Opened s r
+opened-is s kind (opening.Is g d) h c e o =
+    subst (λ (k : Kind). Opens (wordOf k) s g d) (sym (o .0)) (o .1)
+opened-is s kind opening.Not h c e o = absurd (let q : _≡_ {A = ℕ} 0 1 = cc in omega arith)
+
+-- one of the last kind, or none of any
+pub opened-last : (s : List ℕ) → OpenedAs System (wordOf System) s opening.Not
+    → OpenedAs Basis (wordOf Basis) s opening.Not → (r : Opening) → OpenedAs Equation (wordOf Equation) s r → Opened s r
+unfolding jobForms
+opened-last s a b (opening.Is h c) o = opened-is s Equation (opening.Is h c) h c refl o
+opened-last s a b opening.Not o = λ h k. none h k (h .kind) refl
+  where
+    none : (h : Header) → Keeps jobForms s h 1 → (kind : Kind) → h .kind ≡ kind → ⊥
+    none h k System e = a h (k .numbers) (k .rest) (k .short) (rw e at (k .begins))
+    none h k Basis e = b h (k .numbers) (k .rest) (k .short) (rw e at (k .begins))
+    none h k Equation e = o h (k .numbers) (k .rest) (k .short) (rw e at (k .begins))
+
+-- line 1 stands
+pub opens-keeps : {s : List ℕ} {h : Header} {c : Cursor} → Opens (wordOf (h .kind)) s h c → Keeps jobForms s h 1
+unfolding jobForms
+opens-keeps o = record { short = o .short; numbers = λ k. pos 0; rest = _; begins = o .begins (λ k. pos 0) }
+
+module _ {s : List ℕ} where
+  pub start-large : 65536 < length s → Started s (start.Stop (Refused Large))
+  unfolding openRules readVerdict verdictOf
+  start-large h = ((λ e. refused-not-done 10 0 0 e), λ g l. says-here _ _ h)
+
+  module _ (short : length s ≤ 65536) where
+    pub start-broken : Opened s opening.Not → Started s (start.Stop (Broken 1))
+    unfolding openRules readVerdict
+    start-broken o =
+        ((λ e. refused-not-done 9 1 0 e), λ g l. says-past _ _ _ (λ q. omega arith) (says-here _ _ (o g)))
+
+    module _ {h : Header} {c : Cursor} (o : Opens (wordOf (h .kind)) s h c) where
+      opens-say : (v : Verdict) → Says (limitRules (h .r) (h .n) (h .p) ++ sizeRules bytes (h .r) (h .n)) v
+          → Says (openRules jobForms s h) v
+      unfolding openRules
+      opens-say v j = says-past _ _ _ (λ q. omega arith) (says-past _ _ _ (λ q. q (opens-keeps o)) j)
+
+      module _ {a : Answer} (j : Judged (limitRules (h .r) (h .n) (h .p) ++ sizeRules bytes (h .r) (h .n)) a) where
+        pub start-limits : OtherThanDone a → Started s (start.Stop (Refused a))
+        unfolding readVerdict
+        start-limits k = (
+          answer-other a k,
+          λ g l. subst (λ (x : Header). Says (openRules jobForms s x) (verdictOf a)) (l .same h (opens-keeps o))
+              (opens-say (verdictOf a) (j .says)),
+        )
+
+        pub start-at : a ≡ Done → Started s (start.At h c)
+        start-at e = (o, opens-say done (judged-done j e))

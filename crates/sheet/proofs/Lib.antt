@@ -1,0 +1,6 @@
+pub mod Headers
+pub mod Unique
+pub mod Before
+pub mod Verdicts
+pub mod Rooms
+pub mod Outcomes
