@@ -3,7 +3,7 @@ use job::Answer;
 ghost use mathlib.Core.Path.{_≡_};
 ghost use Rattle.job.specs.Refusal.{verdictOf};
 ghost use Rattle.job.specs.Job.{buffers, words};
-ghost use Rattle.job.specs.declared.Kind.the-variants.{System, Equation};
+ghost use Rattle.job.specs.declared.Kind.the-variants.{System, Basis, Equation};
 ghost use Rattle.refusal.specs.Checked.{jobOf};
 ghost use Rattle.pealvixen.specs.Packing.{packed, PackedOutcome};
 
@@ -44,6 +44,50 @@ pub extern "C" fn pealvixen_system_halving(
         (buffers (now (a .entry)) (now (b .entry)) (now (v .entry)) (now (y .exit)) (now (work .exit))) ⌝ }
 {
     let answer = halving::system(r, n, p, a, b, v, y, work);
+    pack(answer)
+}
+
+// The system job by Newton.
+#[no_mangle]
+pub extern "C" fn pealvixen_system_newton(
+    r: u64,
+    n: u64,
+    p: u64,
+    a: &[u32],
+    b: &[u32],
+    v: &[u32],
+    y: &mut [u32],
+    work: &mut [u32],
+) -> u64
+    ensures { λ x. ⌜ PackedOutcome words
+        (jobOf System r n p
+        (buffers (now (a .entry)) (now (b .entry)) (now (v .entry)) (now (y .entry)) (now (work .entry))))
+        x
+        (buffers (now (a .entry)) (now (b .entry)) (now (v .entry)) (now (y .exit)) (now (work .exit))) ⌝ }
+{
+    let answer = newton::system(r, n, p, a, b, v, y, work);
+    pack(answer)
+}
+
+// The basis job: a basis and its inverse.
+#[no_mangle]
+pub extern "C" fn pealvixen_basis(
+    r: u64,
+    n: u64,
+    p: u64,
+    a: &[u32],
+    y0: &[u32],
+    y: &mut [u32],
+    z: &mut [u32],
+    work: &mut [u32],
+) -> u64
+    ensures { λ x. ⌜ PackedOutcome words
+        (jobOf Basis r n p
+        (buffers (now (a .entry)) (now (y0 .entry)) (now (y .entry)) (now (z .entry)) (now (work .entry))))
+        x
+        (buffers (now (a .entry)) (now (y0 .entry)) (now (y .exit)) (now (z .exit)) (now (work .exit))) ⌝ }
+{
+    let answer = newton::basis(r, n, p, a, y0, y, z, work);
     pack(answer)
 }
 
