@@ -1,119 +1,236 @@
-//! The proved library beside the second program: every answer, place and lent word is compared.
+//! The proved library beside the second program: every answer, place, lent word and lent byte is compared.
 
-use reference::jobs::{WordJob, Words};
+#![forbid(unsafe_code)]
+
+use pealvixen::lent::{self, Cell};
+use pealvixen::{Method, ABSENT};
+use reference::jobs::{ByteJob, WordJob};
+use reference::random::WriterCall;
+use reference::sheets::{self, rooms_after, text_after};
 use reference::{Answer, Kind};
+use std::fmt::Debug;
 
-type Job = unsafe extern "C" fn(
-    u64,
-    u64,
-    u64,
-    *const u32,
-    usize,
-    *const u32,
-    usize,
-    *const u32,
-    usize,
-    *mut u32,
-    usize,
-    *mut u32,
-    usize,
-) -> u64;
+const METHODS: [Method; 2] = [Method::Halving, Method::Newton];
 
-#[link(name = "pealvixen", kind = "static")]
-extern "C" {
-    fn pealvixen_system_halving(
-        r: u64,
-        n: u64,
-        p: u64,
-        a: *const u32,
-        a_length: usize,
-        b: *const u32,
-        b_length: usize,
-        v: *const u32,
-        v_length: usize,
-        y: *mut u32,
-        y_length: usize,
-        work: *mut u32,
-        work_length: usize,
-    ) -> u64;
-    fn pealvixen_equation_halving(
-        r: u64,
-        n: u64,
-        p: u64,
-        a: *const u32,
-        a_length: usize,
-        b: *const u32,
-        b_length: usize,
-        start: *const u32,
-        start_length: usize,
-        y: *mut u32,
-        y_length: usize,
-        work: *mut u32,
-        work_length: usize,
-    ) -> u64;
-}
-
-/// The packed answer of the library: number + 2^8 * first place + 2^32 * second place, and 0 for done.
-pub fn packed(answer: &Answer<Words>) -> u64 {
+/// The packed answer that the library must give: number + 2^8 * first place + 2^32 * second place, and 0 for done.
+pub fn packed<T>(answer: &Answer<T>) -> u64 {
     match answer.refusal() {
         None => 0,
         Some((number, first, second)) => number + (first << 8) + (second << 32),
     }
 }
 
-/// The library's job for a kind, as far as there is one on words by halving.
-fn library(kind: Kind) -> Option<Job> {
-    match kind {
-        Kind::System => Some(pealvixen_system_halving),
-        Kind::Equation => Some(pealvixen_equation_halving),
-        Kind::Basis => None,
+/// Does the archive have this function?
+pub fn exported(name: &str) -> bool {
+    !ABSENT.contains(&format!("pealvixen_{name}").as_str())
+}
+
+/// How many calls were compared, and how often each answer came, with 0 for done.
+#[derive(Clone, Debug, Default, PartialEq, Eq)]
+pub struct Tally {
+    pub calls: u64,
+    pub answers: [u64; 11],
+}
+
+impl Tally {
+    fn count<T>(&mut self, answer: &Answer<T>) {
+        self.calls += 1;
+        self.answers[answer.refusal().map_or(0, |(number, _, _)| number as usize)] += 1;
+    }
+
+    /// Compares a job on words with each method that the library has for its kind.
+    pub fn words(&mut self, job: &WordJob) {
+        let answer = job.answer();
+        let after = job.buffers_after(&answer);
+        let ran = Ran {
+            kind: job.kind,
+            numbers: [job.r, job.n, job.p],
+            before: &job.buffers,
+            after: &after,
+            code: packed(&answer),
+            suffix: "",
+        };
+        for _ in 0..ran.compare(0) {
+            self.count(&answer);
+        }
+    }
+
+    /// Compares a job on bytes with each method that the library has for its kind.
+    pub fn bytes(&mut self, job: &ByteJob) {
+        let answer = job.answer();
+        let after = job.buffers_after(&answer);
+        let ran = Ran {
+            kind: job.kind,
+            numbers: [job.r, job.n, job.p],
+            before: &job.buffers,
+            after: &after,
+            code: packed(&answer),
+            suffix: "_bytes",
+        };
+        for _ in 0..ran.compare(0xa5) {
+            self.count(&answer);
+        }
+    }
+
+    /// Compares the reading of a job sheet into rooms that hold these words.
+    pub fn job_sheet(&mut self, text: &[u8], rooms: &[Vec<u32>; 3]) {
+        let [one, two, three] = rooms;
+        let answer = sheets::read_job(text, [one.len(), two.len(), three.len()]);
+        self.count(&answer);
+        if exported("read_job") {
+            let mut after = rooms.clone();
+            let [one, two, three] = &mut after;
+            let sheet = lent::read_job(text, one, two, three);
+            compare_sheet(text, sheet, &answer);
+            assert!(after[..] == rooms_after(rooms, &answer), "{}", shown(text));
+        }
+    }
+
+    /// Compares the reading of a result sheet into rooms that hold these words.
+    pub fn result_sheet(&mut self, text: &[u8], rooms: &[Vec<u32>; 2]) {
+        let [one, two] = rooms;
+        let answer = sheets::read_result(text, [one.len(), two.len()]);
+        self.count(&answer);
+        if exported("read_result") {
+            let mut after = rooms.clone();
+            let [one, two] = &mut after;
+            let sheet = lent::read_result(text, one, two);
+            compare_sheet(text, sheet, &answer);
+            assert!(after[..] == rooms_after(rooms, &answer), "{}", shown(text));
+        }
+    }
+
+    /// Compares a call of a writer, into text that holds this byte throughout.
+    pub fn writer(&mut self, call: &WriterCall, byte: u8) {
+        let answer = call.answer();
+        self.count(&answer);
+        let name = match call.kind {
+            Kind::System => "write_system",
+            Kind::Basis => "write_basis",
+            Kind::Equation => "write_equation",
+        };
+        if exported(name) {
+            let before = vec![byte; call.text_length];
+            let mut text = before.clone();
+            let (r, n, p) = (call.r, call.n, call.p);
+            let written = match (call.kind, &call.words[..]) {
+                (Kind::System, [y]) => lent::write_system(r, n, p, y, &mut text),
+                (Kind::Equation, [y]) => lent::write_equation(r, n, p, y, &mut text),
+                (Kind::Basis, [y, z]) => lent::write_basis(r, n, p, y, z, &mut text),
+                _ => unreachable!("a call has as many slices of words as its kind"),
+            };
+            assert_eq!(written.answer, packed(&answer), "{call:?}");
+            let length = answer.done().map_or(0, |text| text.len() as u64);
+            assert_eq!(written.length, length, "{call:?}");
+            assert!(text == text_after(&before, &answer), "{call:?}");
+        }
+    }
+
+    /// Prints a line on what was compared.
+    pub fn report(&self, what: &str) {
+        let Tally { calls, answers } = self;
+        let refused: Vec<String> = (1..=10)
+            .filter(|&number| answers[number] > 0)
+            .map(|number| format!("{} x {number}", answers[number]))
+            .collect();
+        println!(
+            "{what}: {calls} calls, {} done; refused {}",
+            answers[0],
+            refused.join(", ")
+        );
     }
 }
 
-/// Runs a job in the library; answers the packed number and every buffer afterwards, or nothing where the library has no
-/// such job.
-pub fn run(job: &WordJob) -> Option<(u64, [Vec<u32>; 5])> {
-    let call = library(job.kind)?;
-    let mut after = job.buffers.clone();
-    let [a, b, v, y, work] = &mut after;
-    // The library reads the first three slices and writes the last two, within their lengths: that is proved of it.
-    let code = unsafe {
-        call(
-            job.r,
-            job.n,
-            job.p,
-            a.as_ptr(),
-            a.len(),
-            b.as_ptr(),
-            b.len(),
-            v.as_ptr(),
-            v.len(),
-            y.as_mut_ptr(),
-            y.len(),
-            work.as_mut_ptr(),
-            work.len(),
-        )
-    };
-    Some((code, after))
+fn shown(text: &[u8]) -> String {
+    String::from_utf8_lossy(&text[..text.len().min(400)]).into_owned()
 }
 
-/// Compares one job; tells whether the library has it.
-pub fn compare(job: &WordJob) -> bool {
-    let (code, after) = match run(job) {
-        Some(ran) => ran,
-        None => return false,
+/// A reader's answer: on a refusal kind, r, N and p are 0.
+fn compare_sheet(text: &[u8], sheet: lent::Sheet, answer: &Answer<sheets::Sheet>) {
+    let expected = match answer {
+        Answer::Done(read) => {
+            let kind = match read.kind {
+                Kind::System => 1,
+                Kind::Basis => 2,
+                Kind::Equation => 3,
+            };
+            [0, kind, read.r, read.n, read.p]
+        }
+        Answer::Refused { .. } => [packed(answer), 0, 0, 0, 0],
     };
-    let answer = job.answer();
-    assert_eq!(
-        code,
-        packed(&answer),
-        "the answers differ: {:?}",
-        (job.kind, job.r, job.n, job.p)
-    );
-    assert!(
-        after == job.buffers_after(&answer),
-        "the words differ: {:?}",
-        (job.kind, job.r, job.n, job.p)
-    );
-    true
+    let given = [sheet.answer, sheet.kind, sheet.r, sheet.n, sheet.p];
+    assert_eq!(given, expected, "{}", shown(text));
+}
+
+/// A job with what it must come to.
+struct Ran<'a, C> {
+    kind: Kind,
+    numbers: [u64; 3],
+    before: &'a [Vec<C>; 5],
+    after: &'a [Vec<C>; 5],
+    code: u64,
+    suffix: &'static str,
+}
+
+impl<C: Cell + PartialEq + Debug> Ran<'_, C> {
+    /// Runs the job by each method that the library has, and answers how many there were. Each buffer stands between
+    /// cells that no call may touch.
+    fn compare(&self, guard: C) -> usize {
+        let mut count = 0;
+        for method in METHODS {
+            let name = match (self.kind, method) {
+                (Kind::System, Method::Halving) => "system_halving",
+                (Kind::System, Method::Newton) => "system_newton",
+                (Kind::Basis, Method::Newton) => "basis",
+                (Kind::Equation, Method::Halving) => "equation_halving",
+                (Kind::Equation, Method::Newton) => "equation_newton",
+                (Kind::Basis, Method::Halving) => continue,
+            };
+            if !exported(&format!("{name}{}", self.suffix)) {
+                continue;
+            }
+            let mut lent = guarded(self.before, guard);
+            let code = call(self.kind, method, self.numbers, &mut lent);
+            let what = || format!("{name}{} at {:?}", self.suffix, self.numbers);
+            assert_eq!(code, self.code, "the answers differ: {}", what());
+            let expected = guarded(self.after, guard);
+            for place in 0..5 {
+                let same = lent[place] == expected[place];
+                assert!(same, "buffer {} differs: {}", place + 1, what());
+            }
+            count += 1;
+        }
+        count
+    }
+}
+
+/// Calls the library on the middle parts of these buffers.
+fn call<C: Cell>(kind: Kind, method: Method, numbers: [u64; 3], buffers: &mut [Vec<C>; 5]) -> u64 {
+    fn middle<C>(cells: &mut [C]) -> &mut [C] {
+        let end = cells.len() - 3;
+        &mut cells[3..end]
+    }
+    let [r, n, p] = numbers;
+    let [one, two, three, four, five] = buffers;
+    let (one, two, three) = (middle(one), middle(two), middle(three));
+    let (four, five) = (middle(four), middle(five));
+    match kind {
+        Kind::System => lent::system(method, r, n, p, one, two, three, four, five),
+        Kind::Basis => lent::basis(r, n, p, one, two, three, four, five),
+        Kind::Equation => lent::equation(method, r, n, p, one, two, three, four, five),
+    }
+}
+
+/// Each buffer between two runs of the guard.
+fn guarded<C: Copy>(buffers: &[Vec<C>; 5], guard: C) -> [Vec<C>; 5] {
+    let [one, two, three, four, five] = buffers;
+    // An odd number of cells in front, so that bytes do not start at a word's address.
+    let around = |cells: &Vec<C>| [&[guard; 3][..], cells, &[guard; 3]].concat();
+    [
+        around(one),
+        around(two),
+        around(three),
+        around(four),
+        around(five),
+    ]
 }
