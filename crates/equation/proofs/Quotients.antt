@@ -1,13 +1,14 @@
--- Quotients that stand in a room: the same words are the same quotient; and a division leaves residues.
+-- Quotients and systems that stand in a room: the same words are the same quotient and the same system; and a division
+-- leaves residues.
 -- Assumes nothing.
-use mathlib.Core.Path.{_≡_, sym, ap, _∙_}
+use mathlib.Core.Path.{_≡_, refl, sym, ap, _∙_}
 use mathlib.Core.Logic.{⊎-elim}
 use mathlib.Core.Bool.{Bool}
 use mathlib.Core.List.{List}
 use Prim.Native.Nat.{ℕ, suc, _+_, _-_, _%_, _<_}
 use native.Mathlib.Omega.{arith}
 use lib.ListN.{getD}
-use Rattle.algebra.specs.Companion.{Quotient}
+use Rattle.algebra.specs.Companion.{Quotient, Companion}
 use Rattle.room.specs.Room.{wordsBack}
 use Rattle.division.specs.Division.{Divided}
 use Rattle.division.proofs.Products.{product-cong}
@@ -21,6 +22,18 @@ quotient-same {p} {d = d} {q = q} {q′ = q′} ex eq h = record {
       ap (λ z. z % p) (sym (product-cong d q k q′ (λ m s. eq m (omega arith))))
       ∙ h .at k l
       ∙ ap (λ z. z % p) (ex k l);
+}
+
+-- and the same words are the same system
+pub companion-same : {p r n : ℕ} {a : ℕ → ℕ → ℕ} {b : ℕ → ℕ} {m m′ : ℕ → ℕ → ℕ → ℕ} {c c′ : ℕ → ℕ → ℕ}
+    → ((k i j : ℕ) → k < n → i < r → j < r → m′ k i j ≡ m k i j) → ((k i : ℕ) → k < n → i < r → c′ k i ≡ c k i)
+    → Companion p r n a b m c → Companion p r n a b m′ c′
+companion-same {p} em ec h = record {
+  next = λ i l s. ap (λ x. x % p) (em 0 i (suc i) l (omega arith) s) ∙ h .next i l s;
+  none = λ k i j l s t o. ap (λ x. x % p) (em k i j l (omega arith) t) ∙ h .none k i j l s t o;
+  still = λ k i l s. ap (λ x. x % p) (ec k i l (omega arith)) ∙ h .still k i l s;
+  last = λ i j e t. quotient-same (λ k l. refl) (λ k l. sym (em k i j l (omega arith) t)) (h .last i j e t);
+  right = λ i e. quotient-same (λ k l. refl) (λ k l. sym (ec k i l (omega arith))) (h .right i e);
 }
 
 -- residues in all words

@@ -31,7 +31,7 @@ use Rattle.job.proofs.Says.{
 use Rattle.job.proofs.Accepted.{Accepted, accepted}
 use Rattle.refusal.specs.Checked.{Checked, Judged, jobOf}
 use Rattle.refusal.proofs.Judged.{judged-next, judged-stop}
-use Rattle.halving.proofs.Rows.{rows-le}
+use Rattle.newton.proofs.Outcomes.{words-below}
 use Rattle.equation.specs.Equation.{Ready, Ran}
 
 -- a refused call, of any kind
@@ -71,12 +71,6 @@ module _ (r n p : ℕ) (lent : Buffers) where
     check-done e some =
         judged-next checked e (record { says = says-past _ _ done (λ z. some (sym lead-place ∙ z)) says-none })
 
--- the words that are used of a room are fewer than it has
-room-enough : (r n : ℕ) → 1 ≤ r → (3 * r + 1) * n + r * r * n ≤ 16 * (r * r * n)
-room-enough r n some =
-    let square : 1 * r ≤ r * r = rows-le r 1 r some in
-    omega (arith, rows-le (r * r) r n (omega arith), rows-le (r * r) 1 n (omega arith))
-
 -- an accepted call
 module _ {r n p : ℕ} {a b start y w : List ℕ} (given : Accepted words (jobOf Equation r n p (buffers a b start y w)))
   where
@@ -89,13 +83,17 @@ module _ {r n p : ℕ} {a b start y w : List ℕ} (given : Accepted words (jobOf
       omega (arith, given .lengths .one, given .limits .terms-least),
     )
 
+    start-length : length start ≡ r
+    unfolding lengthsOf
+    start-length = omega (arith, given .lengths .three)
+
     pub modulus-small : SmallModulus p
     modulus-small = record {
       some = omega (arith, given .limits .prime .two);
       half = omega (arith, given .limits .half);
     }
 
-    ready : {q : Modulus} → IsModulus q p → getD a (r * n) 0 ≢ 0 → Ready q r n a b start y w
+    ready : {q : Modulus} → IsModulus q p → getD a (r * n) 0 ≢ 0 → Ready q r n a b start w
     unfolding lengthsOf carried roomOf readCount wordAt
     ready {q} modulus lead = record {
       modulus = subst (λ (x : ℕ). IsModulus q x) (sym (modulus .self)) modulus;
@@ -107,54 +105,60 @@ module _ {r n p : ℕ} {a b start y w : List ℕ} (given : Accepted words (jobOf
       few = rw (modulus .self) (given .limits .few);
       one = omega (arith, given .lengths .one);
       two = omega (arith, given .lengths .two);
-      three = omega (arith, given .lengths .three);
-      four = omega (arith, given .lengths .four);
-      five = omega (arith, given .lengths .five, room-enough r n (given .limits .order-least));
+      three = start-length;
+      room = omega (arith, given .lengths .five);
       below-one = rw (modulus .self) (given .one .below);
       below-two = rw (modulus .self) (given .two .below);
-      below-three = rw (modulus .self) (given .three (omega arith) .below);
+      below-three = rw (modulus .self) (words-below (modulus-small .some) start-length (given .three (omega arith)));
       lead = lead;
     }
 
 -- a call that neither the checks nor rule 8 refuse
-module _ {r n p : ℕ} {a b start y w : List ℕ}
-    (says : Says (callRules words (jobOf Equation r n p (buffers a b start y w))) done)
-  where
-    pub call-accepted : Accepted words (jobOf Equation r n p (buffers a b start y w))
-    unfolding callRules
-    call-accepted =
-        accepted words _ (says-split (checkRules words (jobOf Equation r n p (buffers a b start y w))) _ says .0)
+pub record Taken (r n p : ℕ) (a b start y w : List ℕ) : Type 0 where
+  pub says : Says (callRules words (jobOf Equation r n p (buffers a b start y w))) done
 
-    pub call-ready : {q : Modulus} → IsModulus q p → Ready q r n a b start y w
-    unfolding callRules kindRules
-    call-ready modulus =
-        let own = says-split (checkRules words (jobOf Equation r n p (buffers a b start y w))) _ says .1 in
-        ready call-accepted modulus (λ z. says-head _ _ own (lead-place r n p (buffers a b start y w) ∙ z))
+module _ {r n p : ℕ} {a b start y w : List ℕ} (taken : Taken r n p a b start y w) where
+  pub call-accepted : Accepted words (jobOf Equation r n p (buffers a b start y w))
+  unfolding callRules
+  call-accepted =
+      accepted words _ (says-split (checkRules words (jobOf Equation r n p (buffers a b start y w))) _ (taken .says) .0)
 
-    pub outcome-done : {q : Modulus} {y′ w′ : List ℕ} → IsModulus q p → length y′ ≡ length y → length w′ ≡ length w
-        → Ran (q .p) r n a b start y′ w′
-        → Outcome words (jobOf Equation r n p (buffers a b start y w)) Done (buffers a b start y′ w′)
-    unfolding verdictOf Solved carried seriesAt wordAt lengthsOf
-    outcome-done {q} {y′} {w′} modulus leny lenw h = record {
-      verdict = says;
-      kept = λ number first second e. absurd (refused-not-done number first second (sym e));
-      solved = λ e. (refl, refl, refl, filled, rw (modulus .self) at (h .series));
-      cleared = λ e. record { len = lenw; zeros = h .cleared .zeros };
-    }
-      where
-        four : length y′ ≡ n
-        four = omega (arith, leny, call-accepted .lengths .four)
+  result-length : length y ≡ n
+  unfolding lengthsOf
+  result-length = omega (arith, call-accepted .lengths .four)
 
-        small : (k : ℕ) → k < n → getD y′ k 0 < p
-        small k l = rw (modulus .self) at (h .below k l)
+  pub call-ready : {q : Modulus} → IsModulus q p → Ready q r n a b start w × (length y ≡ n)
+  unfolding callRules kindRules
+  call-ready modulus =
+      let own = says-split (checkRules words (jobOf Equation r n p (buffers a b start y w))) _ (taken .says) .1 in (
+        ready call-accepted modulus (λ z. says-head _ _ own (lead-place r n p (buffers a b start y w) ∙ z)),
+        result-length,
+      )
 
-        filled : Filled words p n y y′
-        filled = record {
-          len = leny;
-          cells = λ k.
-              elim (decLt k n) [
-                | yes l ↦ omega (arith, small k l, call-accepted .limits .half)
-                | no l ↦ rw (List·getD-eq-default y′ 0 {n = k} (omega (arith, four))) (omega arith)
-              ];
-          below = small;
-        }
+  pub outcome-done : {q : Modulus} {y′ w′ : List ℕ} → IsModulus q p → length y′ ≡ length y → length w′ ≡ length w
+      → Ran (q .p) r n a b start y′ w′
+      → Outcome words (jobOf Equation r n p (buffers a b start y w)) Done (buffers a b start y′ w′)
+  unfolding verdictOf Solved carried seriesAt wordAt lengthsOf
+  outcome-done {q} {y′} {w′} modulus leny lenw h = record {
+    verdict = taken .says;
+    kept = λ number first second e. absurd (refused-not-done number first second (sym e));
+    solved = λ e. (refl, refl, refl, filled, rw (modulus .self) at (h .series));
+    cleared = λ e. record { len = lenw; zeros = h .cleared .zeros };
+  }
+    where
+      four : length y′ ≡ n
+      four = omega (arith, leny, result-length)
+
+      small : (k : ℕ) → k < n → getD y′ k 0 < p
+      small k l = rw (modulus .self) at (h .below k l)
+
+      filled : Filled words p n y y′
+      filled = record {
+        len = leny;
+        cells = λ k.
+            elim (decLt k n) [
+              | yes l ↦ omega (arith, small k l, call-accepted .limits .half)
+              | no l ↦ rw (List·getD-eq-default y′ 0 {n = k} (omega (arith, four))) (omega arith)
+            ];
+        below = small;
+      }

@@ -4,38 +4,14 @@ use job::Kind;
 use residue::Modulus;
 ghost use mathlib.Core.Path.{_≡_};
 ghost use lib.ListN.{length};
+ghost use Rattle.room.specs.Room.{wordsFrom, Inside, Put, Zeros};
 ghost use Rattle.job.specs.Job.{buffers, words};
 ghost use Rattle.job.specs.Rules.{callRules};
 ghost use Rattle.job.specs.Outcome.{Outcome};
 ghost use Rattle.job.specs.declared.Kind.the-variants.{Equation};
 ghost use Rattle.refusal.specs.Checked.{jobOf, Judged};
-ghost use Rattle.equation.specs.Steps.{oneAt, startAt, Steps, Spread};
 ghost use Rattle.equation.specs.Translation.{Dividable, RowDivided, Translatable, Translated};
-ghost use Rattle.equation.specs.Equation.{Ready, Ran};
-
-// Puts 1 into `count` words of w, the first at `from` and each next one `step` words later.
-fn spread_ones(count: usize, w: &mut [u32], from: usize, step: usize)
-    requires { ⌜ Steps count from step (now w) ⌝ }
-    ensures { λ _. ⌜ Spread count from step oneAt (now (w .entry)) (now (w .exit)) ⌝ }
-{
-    let mut i = 0;
-    while i < count {
-        w[from + i * step] = 1;
-        i += 1;
-    }
-}
-
-// Puts the first `count` words of s into words of w that stand in the same way.
-fn spread_starts(count: usize, s: &[u32], w: &mut [u32], from: usize, step: usize)
-    requires { ⌜ (length (now s) ≡ count) × Steps count from step (now w) ⌝ }
-    ensures { λ _. ⌜ Spread count from step (startAt (now (s .entry))) (now (w .entry)) (now (w .exit)) ⌝ }
-{
-    let mut i = 0;
-    while i < count {
-        w[from + i * step] = s[i];
-        i += 1;
-    }
-}
+ghost use Rattle.equation.specs.Equation.{Ready, Ran, Placed};
 
 // Writes the quotients of -a_0, .., -a_(r-1) by a_r to the words of w from `row` on, n words for each. `lead` is the
 // inverse of the first coefficient of a_r, and the n words from `back` on are scratch.
@@ -79,10 +55,21 @@ pub fn translate(
         (now (w .entry)) (now (w .exit)) ⌝ }
 {
     let last = r - 1;
+    let ones = [1u32; 8];
     let lead = inverse::invert(a[r * n], q.p as u32);
-    spread_ones(last, w, at + n, (r + 1) * n);
+    newton::spread(last, (r + 1) * n, &ones, 0, at + n, w);
     divide_row(q, lead, r, n, a, w, at + last * r * n, back);
     division::divide(q, lead, false, a, r * n, b, 0, n, w, side, back);
+}
+
+// Hands the n words from `from` on over to y, and clears the room that they stand in.
+fn hand_over(n: usize, from: usize, y: &mut [u32], lent: &mut [u32])
+    requires { ⌜ Inside (now lent) from n × Inside (now y) 0 n ⌝ }
+    ensures { λ _. ⌜ Put 0 n (wordsFrom (now (lent .entry)) from) (now (y .entry)) (now (y .exit))
+        × Zeros (now (lent .exit)) ⌝ }
+{
+    room::copy(lent, from, y, 0, n);
+    room::clear(lent);
 }
 
 // Solves an accepted equation by halving. The right side's rows are moved by one term in the solver's room, so that
@@ -97,7 +84,7 @@ fn run_halving(
     y: &mut [u32],
     work: &mut [u32],
 )
-    requires { ⌜ Ready q r n (now a) (now b) (now start) (now y) (now work) ⌝ }
+    requires { ⌜ Ready q r n (now a) (now b) (now start) (now work) × (length (now y) ≡ n) ⌝ }
     ensures { λ _. ⌜ Ran (q .p) r n (now (a .entry)) (now (b .entry)) (now (start .entry))
         (now (y .exit)) (now (work .exit)) ⌝ }
 {
@@ -113,10 +100,47 @@ fn run_halving(
         (r - 1) * n + 1,
         2 * r * n,
     );
-    spread_starts(r, start, work, 0, n);
+    newton::spread(r, n, start, 0, 0, work);
     halving::solve_rows(q, r, n, work);
-    room::copy(work, r * n, y, 0, n);
-    room::clear(work);
+    hand_over(n, r * n, y, work);
+}
+
+// Puts the system of an accepted equation into the room of the Newton solver: its matrix, the identity as the first
+// term of Y and of Z, b / a_r as the last row of the right side, and the start. The translation's scratch is the place
+// where the solver makes copies.
+fn place(q: Modulus, r: usize, n: usize, a: &[u32], b: &[u32], start: &[u32], w: &mut [u32])
+    requires { ⌜ Ready q r n (now a) (now b) (now start) (now w) ⌝ }
+    ensures { λ _. ⌜ Placed q r n (now (a .entry)) (now (b .entry)) (now (start .entry)) (now (w .exit)) ⌝ }
+{
+    let m = r * r * n;
+    let step = (r + 1) * n;
+    let ones = [1u32; 8];
+    room::clear(w);
+    translate(q, r, n, a, b, w, 0, 8 * m + (r - 1) * n, 3 * m);
+    newton::spread(r, step, &ones, 0, m, w);
+    newton::spread(r, step, &ones, 0, 2 * m, w);
+    newton::spread(r, n, start, 0, 9 * m, w);
+}
+
+// Solves an accepted equation by Newton.
+fn run_newton(
+    q: Modulus,
+    r: usize,
+    n: usize,
+    a: &[u32],
+    b: &[u32],
+    start: &[u32],
+    y: &mut [u32],
+    work: &mut [u32],
+)
+    requires { ⌜ Ready q r n (now a) (now b) (now start) (now work) × (length (now y) ≡ n) ⌝ }
+    ensures { λ _. ⌜ Ran (q .p) r n (now (a .entry)) (now (b .entry)) (now (start .entry))
+        (now (y .exit)) (now (work .exit)) ⌝ }
+{
+    let m = r * r * n;
+    place(q, r, n, a, b, start, work);
+    ladder::solve_system(q, r, n, work);
+    hand_over(n, 11 * m, y, work);
 }
 
 // Refusals 1 to 6, and 8: the first coefficient of a_r is 0.
@@ -172,5 +196,31 @@ pub fn by_halving(
     };
     let q = residue::make_modulus(p as u32);
     run_halving(q, r as usize, n as usize, a, b, start, y, work);
+    Answer::Done
+}
+
+// The equation job by Newton, with the same answer and the same words.
+pub fn by_newton(
+    r: u64,
+    n: u64,
+    p: u64,
+    a: &[u32],
+    b: &[u32],
+    start: &[u32],
+    y: &mut [u32],
+    work: &mut [u32],
+) -> Answer
+    ensures { λ x. ⌜ Outcome words
+        (jobOf Equation r n p
+        (buffers (now (a .entry)) (now (b .entry)) (now (start .entry)) (now (y .entry)) (now (work .entry))))
+        x
+        (buffers (now (a .entry)) (now (b .entry)) (now (start .entry)) (now (y .exit)) (now (work .exit))) ⌝ }
+{
+    let answer = check(r, n, p, a, b, start, y, work);
+    let Answer::Done = answer else {
+        return answer;
+    };
+    let q = residue::make_modulus(p as u32);
+    run_newton(q, r as usize, n as usize, a, b, start, y, work);
     Answer::Done
 }

@@ -16,16 +16,16 @@ use Rattle.job.specs.Job.{words, wordAt, seriesAt, matrixAt}
 use Rattle.ladder.specs.Layout.{matrixOf}
 use Rattle.newton.specs.Basis.{Spreadable, spreadTerm}
 use Rattle.newton.specs.System.{Placeable, Placed}
-use Rattle.newton.proofs.Units.{diagonal, diagonal-ones}
+use Rattle.newton.proofs.Units.{diagonal-inside, diagonal-reach, diagonal-ones}
 
 -- eight ones
 abbrev pub units : List ℕ
 units = replicate 8 1
 
-units-at : (e : ℕ) → e < 8 → getD units e 0 ≡ 1
+pub units-at : (e : ℕ) → e < 8 → getD units e 0 ≡ 1
 units-at e l = getD-replicate 8 e 1 0 l
 
-units-small : (p e : ℕ) → 1 < p → getD units e 0 < p
+pub units-small : (p e : ℕ) → 1 < p → getD units e 0 < p
 units-small p e two =
     elim (decLt e 8) [
       | yes l ↦ rw (units-at e l) two
@@ -55,16 +55,6 @@ module _ {r n : ℕ} {a w : List ℕ} (given : Placeable r n a w) where
       let more : 1 ≤ r + 1 = omega arith in
       N.mul-le-mul more (given .terms-least)
 
-  -- the diagonal ends inside its place
-  diagonal-inside : {e : ℕ} → e < r → e * step + n ≤ m
-  diagonal-inside {e} l = omega (arith, diagonal r n e, stride n (entry-below {r = r} {c = r} l l))
-
-  reach : r * step ≤ 2 * m
-  reach =
-      let wide : r * 1 ≤ r * r = N.mul-le-mul (N.le-refl r) (given .order-least) in
-      let square : r ≤ r * r = omega (arith, N.mul-one r) in
-      omega (arith, diagonal r n r, N.add-mul (r * r) r n, N.mul-le-mul-right n square)
-
   module _ {w₁ : List ℕ} (len₁ : length w₁ ≡ length w) (zeros : Zeros w₁) where
     pub matrix-inside : Inside a 0 m × Inside w₁ 0 m
     matrix-inside =
@@ -75,7 +65,7 @@ module _ {r n : ℕ} {a w : List ℕ} (given : Placeable r n a w) where
       solution-spreads = record {
         terms = step-least;
         source = omega (arith, given .order, length-replicate {A = ℕ} 8 1);
-        target = omega (arith, given .room, len₁, len₂, reach);
+        target = omega (arith, given .room, len₁, len₂, diagonal-reach n (given .order-least));
       }
 
       module _ {w₃ : List ℕ} (len₃ : length w₃ ≡ length w₂)
@@ -84,7 +74,7 @@ module _ {r n : ℕ} {a w : List ℕ} (given : Placeable r n a w) where
         inverse-spreads = record {
           terms = step-least;
           source = omega (arith, given .order, length-replicate {A = ℕ} 8 1);
-          target = omega (arith, given .room, len₁, len₂, len₃, reach);
+          target = omega (arith, given .room, len₁, len₂, len₃, diagonal-reach n (given .order-least));
         }
 
         module _ {w₄ : List ℕ} (third : Written r step (firstTerms (2 * m) 1) (spreadTerm units 0) w₃ w₄) where
@@ -99,7 +89,7 @@ module _ {r n : ℕ} {a w : List ℕ} (given : Placeable r n a w) where
 
           behind-second : (x : ℕ) → 2 * m ≤ x → getD w₃ x 0 ≡ getD w₂ x 0
           behind-second x l = second .old x (λ e k h _ u eq.
-              let inside = diagonal-inside h in
+              let inside = diagonal-inside n h in
               let some = given .terms-least in
               absurd (omega arith))
 

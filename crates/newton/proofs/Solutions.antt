@@ -26,13 +26,13 @@ use Rattle.newton.specs.System.{Placed, SystemReady, SystemFound, System
 use Rattle.newton.proofs.Starts.{left-moved}
 
 -- the identity is its own inverse
-one-one : (p r : ℕ) → 0 < p → LeftInverse p r (identityAt 0) (identityAt 0)
+pub one-one : (p r : ℕ) → 0 < p → LeftInverse p r (identityAt 0) (identityAt 0)
 one-one p r pos =
     left-inverse-of-matrix p r pos (identityAt 0) (identityAt 0)
     (rw (matrix-identity p r pos) (Matrices (Residues p) r .one-mul (Matrices (Residues p) r .one)))
 
 -- the word of a vector's entry
-vector-place : (at n i k : ℕ) → at + (i * 1 + 0) * n + k ≡ at + i * n + k
+pub vector-place : (at n i k : ℕ) → at + (i * 1 + 0) * n + k ≡ at + i * n + k
 vector-place at n i k = ap (λ x. at + x * n + k) (omega arith)
 
 module _ {q : Modulus} {r n l : ℕ} {a b v w : List ℕ} (given : SystemReady q r n a b v w) (size : l ≡ r * r * n) where

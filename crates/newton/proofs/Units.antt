@@ -12,7 +12,7 @@ use borrow.Author.Tests.{eq-eqb, ne-eqb}
 use Rattle.algebra.specs.Meaning.{identityAt}
 use Rattle.matrix.specs.Layout.{coef, Written}
 use Rattle.matrix.specs.Product.{firstTerms}
-use Rattle.matrix.proofs.Written.{stride}
+use Rattle.matrix.proofs.Written.{stride, entry-below}
 use Rattle.newton.specs.Basis.{spreadTerm}
 
 identity-same : (i : ℕ) → identityAt 0 i i ≡ 1
@@ -26,6 +26,17 @@ identity-other i j n = rw (ne-eqb i j n)
 -- the words of the diagonal are r + 1 entries apart
 pub diagonal : (r n i : ℕ) → i * ((r + 1) * n) ≡ (i * r + i) * n
 diagonal r n i = rw (← N.mul-assoc, N.mul-add, N.mul-one)
+
+-- the diagonal ends inside its place
+pub diagonal-inside : {r e : ℕ} (n : ℕ) → e < r → e * ((r + 1) * n) + n ≤ r * r * n
+diagonal-inside {r} {e} n l = omega (arith, diagonal r n e, stride n (entry-below {r = r} {c = r} l l))
+
+-- as many steps as the diagonal has words end inside two places
+pub diagonal-reach : {r : ℕ} (n : ℕ) → 1 ≤ r → r * ((r + 1) * n) ≤ 2 * (r * r * n)
+diagonal-reach {r} n some =
+    let wide : r * 1 ≤ r * r = N.mul-le-mul (N.le-refl r) some in
+    let square : r ≤ r * r = omega (arith, N.mul-one r) in
+    omega (arith, diagonal r n r, N.add-mul (r * r) r n, N.mul-le-mul-right n square)
 
 -- an entry beside the diagonal is none of these words
 off-diagonal : {r n i j e : ℕ} → 1 ≤ n → i < r → j < r → e < r → i ≢ j → (i * r + j) * n ≢ e * ((r + 1) * n)

@@ -13,7 +13,7 @@ ghost use Rattle.newton.specs.Basis.{Spreadable, Spread, Startable, Star
 ghost use Rattle.newton.specs.System.{Placeable, Placed, SystemReady, SystemFound, SystemRan};
 
 // Puts the words of src from `from` on into the first terms of the entries from word `at` on, a word to an entry.
-fn spread(entries: usize, n: usize, src: &[u32], from: usize, at: usize, w: &mut [u32])
+pub fn spread(entries: usize, n: usize, src: &[u32], from: usize, at: usize, w: &mut [u32])
     requires { ⌜ Spreadable entries n (now src) from at (now w) ⌝ }
     ensures { λ _. ⌜ Spread entries n (now (src .entry)) from at (now (w .entry)) (now (w .exit)) ⌝ }
 {

@@ -3,14 +3,10 @@
 -- Assumes nothing.
 use native.Mathlib.Omega.{arith}
 use borrow.Author.Needs.{needs}
-use Rattle.job.specs.declared.Kind.the-variants.{Equation}
-use Rattle.job.specs.Refusal.{done, Says}
-use Rattle.job.specs.Job.{buffers, words}
-use Rattle.job.specs.Rules.{callRules}
-use Rattle.refusal.specs.Checked.{jobOf}
 use Rattle.refusal.proofs.Judged.{judged-done}
 use Rattle.equation.proofs.Verdicts.{
   outcome-refused,
+  Taken,
   call-accepted,
   call-ready,
   modulus-small,
@@ -34,14 +30,15 @@ same-length-2 c = search needs
 returns : tie.Need-returns
 returns c = outcome-refused _ (c .before .check .ensures) (c .match .keys2)
 
+-- the entry, from the place before the check
+abbrev entry : tie.After-check-arg2 → tie.Start
+entry c = c .before .before .before .before .before .before .before
+
 -- neither the checks nor rule 8 refuse
 admitted : (c : tie.After-enum-told)
-    → let s = c .before .before .before .before .before .before .before .before .before .before .args in
-    Says
-    (callRules words
-    (jobOf Equation (s .r) (s .n) (s .p)
-    (buffers (s .a .now) (s .b .now) (s .start .now) (s .y .now) (s .work .now)))) done
-admitted c = judged-done (c .before .before .check .ensures) (c .enum-told .given .1)
+    → let s = entry (c .before .before .before) .args in
+    Taken (s .r) (s .n) (s .p) (s .a .now) (s .b .now) (s .start .now) (s .y .now) (s .work .now)
+admitted c = record { says = judged-done (c .before .before .check .ensures) (c .enum-told .given .1) }
 
 cast-make-modulus : tie.Need-cast-make-modulus
 cast-make-modulus c = omega (arith, modulus-small (call-accepted (admitted c)) .half)

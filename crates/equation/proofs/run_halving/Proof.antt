@@ -1,27 +1,35 @@
 -- `equation::run_halving` meets its contract: the room is cleared, gets the equation's system, and is solved; the first
 -- unknown is handed over, and the room cleared again.
 -- Assumes nothing.
+use mathlib.Core.Path.{_≡_}
 use native.Mathlib.Omega.{arith}
 use borrow.Author.Needs.{needs}
+use lib.ListN.{length}
 use Rattle.equation.specs.Equation.{Ready}
-use Rattle.equation.proofs.Solves.{rows-small, ready-translatable, starts-inside, ready-solvable, ran}
+use Rattle.equation.proofs.Rooms.{ready-translatable, starts-spread}
+use Rattle.equation.proofs.Halving.{rows-small, used, room-places, answer-inside, ready-solvable, ran}
 use Rattle.equation.proofs.run_halving.Statement.{statement}
 use Rattle.equation.proofs.run_halving.Tie as tie
 
 -- what is given, from the place behind the first clearing
 abbrev given : (c : tie.After-clear)
     → let s = c .before .before .before .before .before .before .before .args in
-    Ready (s .q) (s .r) (s .n) (s .a .now) (s .b .now) (s .start .now) (s .y .now) (s .work .now)
-given c = c .before .before .before .before .before .before .before .pre
+    Ready (s .q) (s .r) (s .n) (s .a .now) (s .b .now) (s .start .now) (s .work .now)
+given c = c .before .before .before .before .before .before .before .pre .0
+
+abbrev result : (c : tie.After-clear)
+    → let s = c .before .before .before .before .before .before .before .args in
+    length (s .y .now) ≡ s .n
+result c = c .before .before .before .before .before .before .before .pre .1
 
 -- the earlier calls, each from the next
 abbrev cleared : tie.After-translate → tie.After-clear
 cleared c = c .before .before .before .before
 
-abbrev translated : tie.After-spread-starts → tie.After-translate
+abbrev translated : tie.After-spread → tie.After-translate
 translated c = c .before .before .before .before
 
-abbrev started : tie.After-solve-rows → tie.After-spread-starts
+abbrev started : tie.After-solve-rows → tie.After-spread
 started c = c .before .before .before .before
 
 clear-requires : tie.Need-clear-requires
@@ -54,16 +62,17 @@ mul-translate-5 c = search needs
 translate-requires : tie.Need-translate-requires
 translate-requires c κs =
     let zeros = c .before .before .before in
-    ready-translatable (given zeros) (zeros .clear .kept .0) (zeros .clear .ensures)
+    ready-translatable (given zeros) (zeros .clear .ensures)
+    (room-places (given zeros) (zeros .clear .kept .0) (omega arith))
 
-spread-starts-requires : tie.Need-spread-starts-requires
-spread-starts-requires c κs =
+spread-requires : tie.Need-spread-requires
+spread-requires c κs =
     let system = c .before .before .before in
-    let zeros = cleared system in (
-      given zeros .three,
-      starts-inside (given zeros) (zeros .clear .kept .0) (zeros .clear .ensures)
-          (system .translate .kept .1 .1 .1 .1 .1 .0) (system .translate .ensures),
-    )
+    let zeros = cleared system in
+    let len = zeros .clear .kept .0 in
+    let room = used (given zeros) in
+    starts-spread (given zeros)
+    (omega (arith, given zeros .terms-least, system .translate .kept .1 .1 .1 .1 .1 .0))
 
 solve-rows-requires : tie.Need-solve-rows-requires
 solve-rows-requires c κs =
@@ -71,17 +80,22 @@ solve-rows-requires c κs =
     let system = translated starts in
     let zeros = cleared system in
     ready-solvable (given zeros) (zeros .clear .kept .0) (zeros .clear .ensures)
-    (system .translate .kept .1 .1 .1 .1 .1 .0) (system .translate .ensures) (starts .spread-starts .kept .1 .1 .0)
-    (starts .spread-starts .ensures)
+    (system .translate .kept .1 .1 .1 .1 .1 .0) (system .translate .ensures) (starts .spread .kept .1 .1 .1 .1 .1 .0)
+    (starts .spread .ensures)
 
-mul-copy : tie.Need-mul-copy
-mul-copy c = omega (arith, rows-small (given (cleared (translated (started (c .before .before .before))))))
+mul-hand-over : tie.Need-mul-hand-over
+mul-hand-over c = omega (arith, rows-small (given (cleared (translated (started (c .before .before))))))
 
-copy-requires : tie.Need-copy-requires
-copy-requires c κs = search needs
-
-clear-requires-2 : tie.Need-clear-requires-2
-clear-requires-2 c κs = search needs
+hand-over-requires : tie.Need-hand-over-requires
+hand-over-requires c κs =
+    let solved = c .before .before .before .before in
+    let starts = started solved in
+    let system = translated starts in
+    let zeros = cleared system in
+    let len = zeros .clear .kept .0 in
+    let len₁ = system .translate .kept .1 .1 .1 .1 .1 .0 in
+    let len₂ = starts .spread .kept .1 .1 .1 .1 .1 .0 in
+    answer-inside (given zeros) (omega (arith, solved .solve-rows .kept .1 .1 .1 .0)) (result zeros)
 
 same-length : tie.Need-same-length
 same-length c = search needs
@@ -91,15 +105,15 @@ same-length-2 c = search needs
 
 returns : tie.Need-returns
 returns c =
-    let last = c .before .before in
-    let copied = last .before .before .before .before in
-    let solved = copied .before .before .before .before .before in
+    let handed = c .before .before .before .before in
+    let solved = handed .before .before .before .before .before in
     let starts = started solved in
     let system = translated starts in
     let zeros = cleared system in
     ran (given zeros) (zeros .clear .kept .0) (zeros .clear .ensures)
-    (system .translate .kept .1 .1 .1 .1 .1 .0) (system .translate .ensures) (starts .spread-starts .kept .1 .1 .0)
-    (starts .spread-starts .ensures) (solved .solve-rows .ensures) (copied .copy .ensures) (last .clear2 .ensures)
+    (system .translate .kept .1 .1 .1 .1 .1 .0) (system .translate .ensures) (starts .spread .kept .1 .1 .1 .1 .1 .0)
+    (starts .spread .ensures) (solved .solve-rows .ensures) (handed .hand-over .ensures .0)
+    (handed .hand-over .ensures .1)
 
 pub run-halving-spec : {M : Type 1} → statement M
 run-halving-spec =
@@ -115,11 +129,10 @@ run-halving-spec =
     mul-translate-4
     mul-translate-5
     translate-requires
-    spread-starts-requires
+    spread-requires
     solve-rows-requires
-    mul-copy
-    copy-requires
-    clear-requires-2
+    mul-hand-over
+    hand-over-requires
     same-length
     same-length-2
     returns)

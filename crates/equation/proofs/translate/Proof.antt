@@ -1,5 +1,6 @@
 -- `equation::translate` meets its contract: the ones, the last row and the right side are written one after the other.
 -- Assumes nothing.
+use mathlib.Core.Path.{_∙_}
 use Prim.Native.Nat.{_+_, _-_, _*_, _≤_}
 use native.Mathlib.Omega.{arith}
 use borrow.Author.Needs.{needs}
@@ -7,7 +8,7 @@ use lib.ListN.{length}
 use Rattle.equation.specs.Translation.{Translatable}
 use Rattle.equation.proofs.System.{
   lead-invertible,
-  ones-inside,
+  ones-spread,
   row-inside,
   row-dividable,
   side-divisible,
@@ -16,17 +17,24 @@ use Rattle.equation.proofs.System.{
 use Rattle.equation.proofs.translate.Statement.{statement}
 use Rattle.equation.proofs.translate.Tie as tie
 
+-- the entry, from the place before the inverse is found, and that place from the last row's
+abbrev entry : tie.After-struct-known → tie.Start
+entry c = c .before .before .before .before .before
+
+abbrev known : tie.After-divide-row-arg → tie.After-struct-known
+known c = c .before .before .before .before .before .before .before
+
 -- what is given
 abbrev given : (c : tie.After-struct-known)
-    → let s = c .before .before .before .before .before .args in
+    → let s = entry c .args in
     Translatable (s .q) (s .r) (s .n) (s .a .now) (s .b .now) (s .w .now) (s .at) (s .side) (s .back)
-given c = c .before .before .before .before .before .pre
+given c = entry c .pre
 
 -- where the last row starts
 abbrev row-start : (c : tie.After-divide-row-arg)
-    → let s = c .before .before .before .before .before .before .before .before .before .before .before .args in
+    → let s = entry (known c) .args in
     ((s .r - 1) * s .r ≤ 64) × (s .at + (s .r - 1) * s .r * s .n ≤ length (s .w .now))
-row-start c = row-inside (given (c .before .before .before .before .before .before))
+row-start c = row-inside (given (known c))
 
 sub-last : tie.Need-sub-last
 sub-last c = search needs
@@ -46,17 +54,20 @@ cast-invert c = search needs
 invert-requires : tie.Need-invert-requires
 invert-requires c κs = lead-invertible (given c)
 
-add-spread-ones : tie.Need-add-spread-ones
-add-spread-ones c = search needs
+add-spread : tie.Need-add-spread
+add-spread c = search needs
 
-add-spread-ones-2 : tie.Need-add-spread-ones-2
-add-spread-ones-2 c = search needs
+mul-spread : tie.Need-mul-spread
+mul-spread c = search needs
 
-mul-spread-ones : tie.Need-mul-spread-ones
-mul-spread-ones c = search needs
+slice-aggregate-spread : tie.Need-slice-aggregate-spread
+slice-aggregate-spread c = search needs
 
-spread-ones-requires : tie.Need-spread-ones-requires
-spread-ones-requires c κs = ones-inside (given (c .before .before))
+add-spread-2 : tie.Need-add-spread-2
+add-spread-2 c = search needs
+
+spread-requires : tie.Need-spread-requires
+spread-requires c κs = ones-spread (given (c .before .before .before)) (omega arith)
 
 mul-divide-row : tie.Need-mul-divide-row
 mul-divide-row c = omega (arith, row-start c)
@@ -70,8 +81,8 @@ add-divide-row c = omega (arith, row-start c)
 divide-row-requires : tie.Need-divide-row-requires
 divide-row-requires c κs =
     let ones = c .before .before .before in
-    row-dividable (given (ones .before .before .before)) (ones .before .before .invert .ensures)
-    (ones .spread-ones .kept .1 .0) (ones .spread-ones .ensures)
+    row-dividable (given (ones .before .before .before .before)) (ones .before .before .before .invert .ensures)
+    (ones .spread .kept .1 .1 .1 .1 .1 .0)
 
 mul-divide : tie.Need-mul-divide
 mul-divide c = search needs
@@ -80,9 +91,8 @@ divide-requires : tie.Need-divide-requires
 divide-requires c κs =
     let rows = c .before .before .before in
     let ones = rows .before .before .before .before in
-    side-divisible (given (ones .before .before .before)) (ones .before .before .invert .ensures)
-    (ones .spread-ones .kept .1 .0) (ones .spread-ones .ensures) (rows .divide-row .kept .1 .1 .1 .1 .1 .0)
-    (rows .divide-row .ensures)
+    side-divisible (given (ones .before .before .before .before)) (ones .before .before .before .invert .ensures)
+    (rows .divide-row .kept .1 .1 .1 .1 .1 .0 ∙ ones .spread .kept .1 .1 .1 .1 .1 .0)
 
 same-length : tie.Need-same-length
 same-length c = search needs
@@ -92,9 +102,8 @@ returns c =
     let divided = c .before .before in
     let rows = divided .before .before .before .before in
     let ones = rows .before .before .before .before in
-    translated (given (ones .before .before .before)) (ones .before .before .invert .ensures)
-    (ones .spread-ones .kept .1 .0) (ones .spread-ones .ensures) (rows .divide-row .kept .1 .1 .1 .1 .1 .0)
-    (rows .divide-row .ensures) (divided .divide .ensures)
+    translated (given (ones .before .before .before .before)) (ones .spread .ensures) (rows .divide-row .ensures)
+    (divided .divide .ensures)
 
 pub translate-spec : {M : Type 1} → statement M
 translate-spec =
@@ -106,10 +115,11 @@ translate-spec =
     shared-slice-read-invert
     cast-invert
     invert-requires
-    add-spread-ones
-    add-spread-ones-2
-    mul-spread-ones
-    spread-ones-requires
+    add-spread
+    mul-spread
+    slice-aggregate-spread
+    add-spread-2
+    spread-requires
     mul-divide-row
     mul-divide-row-2
     add-divide-row

@@ -9,21 +9,29 @@ use native.Mathlib.Decide.{ℕ-discrete}
 use native.Mathlib.Omega.{arith}
 use lib.ListN.{length, getD}
 use Rattle.algebra.specs.Meaning.{SystemSeries}
-use Rattle.algebra.proofs.Meaning.{system-cong, equation-cong}
-use Rattle.algebra.proofs.Companion.{equation-of-companion}
+use Rattle.algebra.proofs.Meaning.{system-cong}
 use Rattle.residue.specs.declared.Modulus.{Modulus}
-use Rattle.room.specs.Room.{wordsFrom, Put, Zeros}
+use Rattle.room.specs.Room.{wordsFrom, Inside, Put, Zeros}
+use Rattle.matrix.specs.Layout.{Written}
+use Rattle.matrix.specs.Product.{firstTerms}
+use Rattle.matrix.proofs.Written.{written-below}
+use Rattle.newton.specs.Basis.{spreadTerm}
 use Rattle.halving.specs.Layout.{rightSide, movedSide, unknown, roomMatrix}
 use Rattle.halving.specs.Halving.{Solvable, RowsSolved}
 use Rattle.halving.proofs.Rows.{row-end, rows-le}
-use Rattle.equation.specs.Steps.{startAt, Steps, Spread}
-use Rattle.equation.specs.Translation.{matrixFrom, sideFrom, Translatable, Translated}
+use Rattle.equation.specs.Translation.{matrixFrom, sideFrom, Places, Translated}
 use Rattle.equation.specs.Equation.{Ready, Ran}
-use Rattle.equation.proofs.Spreads.{spread-below}
 use Rattle.equation.proofs.Places.{place-unique}
 use Rattle.equation.proofs.System.{side-last, side-other}
+use Rattle.equation.proofs.Rooms.{ready-ran}
 
-module _ {q : Modulus} {r n : ℕ} {a b start y work : List ℕ} (given : Ready q r n a b start y work) where
+-- the words that are used of a room are fewer than it has
+room-enough : (r n : ℕ) → 1 ≤ r → (3 * r + 1) * n + r * r * n ≤ 16 * (r * r * n)
+room-enough r n some =
+    let square : 1 * r ≤ r * r = rows-le r 1 r some in
+    omega (arith, rows-le (r * r) r n (omega arith), rows-le (r * r) 1 n (omega arith))
+
+module _ {q : Modulus} {r n : ℕ} {a b start work : List ℕ} (given : Ready q r n a b start work) where
   -- the solver's places: the matrix, the last row of the right side, and the first of the copies as scratch
   abbrev at : ℕ
   at = (3 * r + 1) * n
@@ -47,41 +55,27 @@ module _ {q : Modulus} {r n : ℕ} {a b start y work : List ℕ} (given : Ready 
       let small : r * n ≤ 32768 = mul-le-mul (given .order) (given .terms) in
       (omega (arith, last-end, given .terms-least), small)
 
+  pub used : (3 * r + 1) * n + r * r * n ≤ length work
+  used = omega (arith, room-enough r n (given .order-least), given .room)
+
+  pub room-places : {x : ℕ} {w : List ℕ} → length w ≡ length work → x ≤ 1 → Places r n w at ((r - 1) * n + x) back
+  room-places len early = record {
+    matrix = omega (arith, used);
+    right-side = omega (arith, used, last-end, some-row);
+    scratch = omega (arith, used, some-row);
+    matrix-side = record { apart = inr (omega (arith, last-end, some-row, given .terms-least)) };
+    matrix-scratch = record { apart = inr (omega (arith, some-row)) };
+    side-scratch = record { apart = inl (omega (arith, last-end, some-row, given .terms-least)) };
+  }
+
+  -- the row of the first unknown
+  pub answer-inside : {z y : List ℕ} → length z ≡ length work → length y ≡ n → Inside z (r * n) n × Inside y 0 n
+  answer-inside len long = (record { within = omega (arith, used, some-row) }, record { within = omega arith })
+
   module _ {w : List ℕ} (len : length w ≡ length work) (zeros : Zeros w) where
-    pub ready-translatable : Translatable q r n a b w at side back
-    ready-translatable = record {
-      modulus = given .modulus;
-      prime = given .prime;
-      order-least = given .order-least;
-      order = given .order;
-      terms-least = given .terms-least;
-      terms = given .terms;
-      one = given .one;
-      two = given .two;
-      below-one = given .below-one;
-      below-two = given .below-two;
-      lead = given .lead;
-      places = record {
-        matrix = omega (arith, len, given .five);
-        right-side = omega (arith, len, given .five, last-end, some-row);
-        scratch = omega (arith, len, given .five, some-row);
-        matrix-side = record { apart = inr (omega (arith, last-end, some-row, given .terms-least)) };
-        matrix-scratch = record { apart = inr (omega (arith, some-row)) };
-        side-scratch = record { apart = inl (omega (arith, last-end, some-row, given .terms-least)) };
-      };
-      empty = λ x l. zeros .zeros (at + x);
-      below = λ k. rw (zeros .zeros k) (given .modulus .some);
-    }
-
     module _ {w₁ : List ℕ} (len₁ : length w₁ ≡ length w) (system : Translated (q .p) r n a b at side back w w₁) where
-      pub starts-inside : Steps r 0 n w₁
-      starts-inside = record {
-        some = given .terms-least;
-        within = λ i l.
-            omega (arith, row-end {i = i} {r = r} n l, len₁, len, given .five, given .terms-least, some-row);
-      }
-
-      module _ {w₂ : List ℕ} (len₂ : length w₂ ≡ length w₁) (starts : Spread r 0 n (startAt start) w₁ w₂) where
+      module _ {w₂ : List ℕ} (len₂ : length w₂ ≡ length w₁)
+          (starts : Written r n (firstTerms 0 1) (spreadTerm start 0) w₁ w₂) where
         pub ready-solvable : Solvable q r n w₂
         ready-solvable = record {
           sized = record {
@@ -90,27 +84,27 @@ module _ {q : Modulus} {r n : ℕ} {a b start y work : List ℕ} (given : Ready 
             order = given .order;
             terms-least = given .terms-least;
             terms = given .terms;
-            below = spread-below starts (given .below-three) (system .below);
+            below = written-below starts (λ e k. given .below-three (0 + e)) (system .below);
           };
           prime = given .prime;
           few = given .few;
-          room = omega (arith, len₂, len₁, len, given .five);
+          room = omega (arith, len₂, len₁, len, used);
         }
 
         -- the starts stand in the rows' first words, and no other word has changed
         inner-kept : (i k : ℕ) → suc k < n → getD w₂ (i * n + suc k) 0 ≡ getD w₁ (i * n + suc k) 0
-        inner-kept i k hk = starts .old (i * n + suc k) (λ o l e.
+        inner-kept i k hk = starts .old (i * n + suc k) (λ o d l _ u e.
             let same = place-unique {i = i} {u = o} {k = suc k} {l = 0} n hk (given .terms-least) (omega arith) in
             omega (arith, same))
 
         behind-kept : (x : ℕ) → r * n ≤ x → getD w₂ x 0 ≡ getD w₁ x 0
         behind-kept x h =
-            starts .old x (λ o l e. omega (arith, row-end {i = o} {r = r} n l, given .terms-least))
+            starts .old x (λ o d l _ u e. omega (arith, row-end {i = o} {r = r} n l, given .terms-least))
 
         start-term : (i : ℕ) → i < r → rightSide w₂ n 0 i ≡ getD start i 0
         start-term i l =
-            let place : 0 + i * n ≡ i * n + 0 = omega arith in
-            rw place at (starts .new i l)
+            let place : 0 + i * n + 0 ≡ i * n + 0 = omega arith in
+            rw (place, zero-add i) at (starts .new i 0 l (omega arith) (omega arith))
 
         side-term : (k i : ℕ) → suc k < n → i < r → movedSide w₂ n k i ≡ sideFrom w₁ side r k i
         side-term k i hk hi =
@@ -143,20 +137,10 @@ module _ {q : Modulus} {r n : ℕ} {a b start y work : List ℕ} (given : Ready 
               (λ i l. ap (λ x. x % q .p) (start-term i l))
               (λ k i s l. refl) (solved .series)
 
-          pub ran : {y′ room : List ℕ} → Put 0 n (wordsFrom z (r * n)) y y′ → Zeros room
+          pub ran : {y y′ room : List ℕ} → Put 0 n (wordsFrom z (r * n)) y y′ → Zeros room
               → Ran (q .p) r n a b start y′ room
-          ran {y′} put cleared = record {
-            below = λ k l. rw (word k l) (solved .below (r * n + k));
-            series =
-                equation-cong (λ i k s l. refl) (λ k l. refl) (λ i s l. refl)
-                (λ k l. ap (λ x. x % q .p) (first k l))
-                (equation-of-companion (q .p) (given .modulus .some) (system .companion) companion-series
-                (given .order-least));
-            cleared = cleared;
-          }
+          ran {y′ = y′} put cleared =
+              ready-ran given (system .companion) companion-series word (λ k l. solved .below ((r + 0) * n + k)) cleared
             where
-              word : (k : ℕ) → k < n → getD y′ k 0 ≡ getD z (r * n + k) 0
-              word k l = rw zero-add at (put .new k l)
-
-              first : (k : ℕ) → k < n → unknown z r n k 0 ≡ getD y′ k 0
-              first k l = ap (λ i. getD z (i * n + k) 0) (add-zero r) ∙ sym (word k l)
+              word : (k : ℕ) → k < n → getD y′ k 0 ≡ unknown z r n k 0
+              word k l = rw zero-add at (put .new k l) ∙ ap (λ i. getD z (i * n + k) 0) (sym (add-zero r))

@@ -1,0 +1,79 @@
+-- `equation::by_newton` meets its contract: what the checks refuse is refused, and an equation that they accept is
+-- solved.
+-- Assumes nothing.
+use native.Mathlib.Omega.{arith}
+use borrow.Author.Needs.{needs}
+use Rattle.refusal.proofs.Judged.{judged-done}
+use Rattle.equation.proofs.Verdicts.{
+  outcome-refused,
+  Taken,
+  call-accepted,
+  call-ready,
+  modulus-small,
+  outcome-done,
+}
+use Rattle.equation.proofs.by_newton.Statement.{statement}
+use Rattle.equation.proofs.by_newton.Tie as tie
+
+check-requires : tie.Need-check-requires
+check-requires c κs = search needs
+
+enum-told : tie.Need-enum-told
+enum-told c = search needs
+
+same-length : tie.Need-same-length
+same-length c = search needs
+
+same-length-2 : tie.Need-same-length-2
+same-length-2 c = search needs
+
+returns : tie.Need-returns
+returns c = outcome-refused _ (c .before .check .ensures) (c .match .keys2)
+
+-- the entry, from the place before the check
+abbrev entry : tie.After-check-arg2 → tie.Start
+entry c = c .before .before .before .before .before .before .before
+
+-- neither the checks nor rule 8 refuse
+admitted : (c : tie.After-enum-told)
+    → let s = entry (c .before .before .before) .args in
+    Taken (s .r) (s .n) (s .p) (s .a .now) (s .b .now) (s .start .now) (s .y .now) (s .work .now)
+admitted c = record { says = judged-done (c .before .before .check .ensures) (c .enum-told .given .1) }
+
+cast-make-modulus : tie.Need-cast-make-modulus
+cast-make-modulus c = omega (arith, modulus-small (call-accepted (admitted c)) .half)
+
+make-modulus-requires : tie.Need-make-modulus-requires
+make-modulus-requires c κs = modulus-small (call-accepted (admitted c))
+
+run-newton-requires : tie.Need-run-newton-requires
+run-newton-requires c κs = call-ready (admitted (c .before .before .before)) (c .before .before .make-modulus .ensures)
+
+same-length-3 : tie.Need-same-length-3
+same-length-3 c = search needs
+
+same-length-4 : tie.Need-same-length-4
+same-length-4 c = search needs
+
+returns-2 : tie.Need-returns-2
+returns-2 c =
+    let ran = c .before .before .before .before in
+    let made = ran .before .before .before in
+    outcome-done (admitted (made .before)) (made .make-modulus .ensures) (ran .run-newton .kept .1 .1 .1 .1 .1 .1 .0)
+    (ran .run-newton .kept .1 .1 .1 .1 .1 .1 .1 .0) (ran .run-newton .ensures)
+
+pub by-newton-spec : {M : Type 1} → statement M
+by-newton-spec =
+    tie.close
+    (tie.spec
+    check-requires
+    enum-told
+    same-length
+    same-length-2
+    returns
+    cast-make-modulus
+    make-modulus-requires
+    run-newton-requires
+    same-length-3
+    same-length-4
+    returns-2)
