@@ -1,8 +1,8 @@
 -- What is written is a result sheet, with the header that was given and the numbers of the words, each in its range:
 -- so a reader of result sheets takes it.
 -- Assumes nothing.
-use mathlib.Core.Path.{_≡_, sym, ap, subst, _∙_}
-use mathlib.Core.List.{List, [], _∷_, _++_, flatten, append-nil}
+use mathlib.Core.Path.{_≡_, refl, sym, ap, subst, _∙_}
+use mathlib.Core.List.{List, [], _∷_, _++_, map, flatten, append-nil}
 use Prim.Native.Nat.{ℕ, zero, suc, _+_, _*_, _≤_, _<_}
 use native.Mathlib.Decide.{ℕ-discrete}
 use native.Mathlib.Omega.{arith}
@@ -13,7 +13,7 @@ use Rattle.job.specs.declared.Kind.{Kind}
 use Rattle.job.specs.declared.Kind.the-variants.{System, Basis, Equation}
 use Rattle.job.specs.Refusal.{Verdict, done, Rule, Says}
 use Rattle.job.specs.Job.{words, bytes, wordAt}
-use Rattle.job.specs.Rules.{limitRules, sizeRules, wordRules}
+use Rattle.job.specs.Rules.{limitRules, sizeRules, lengthRules, wordRules, readRules}
 use Rattle.job.proofs.Accepted.{Limits}
 use Rattle.job.proofs.Says.{says-head, says-tail, says-split}
 use Rattle.text.specs.Class.{Balanced}
@@ -27,10 +27,10 @@ use Rattle.header.specs.Header.{header}
 use Rattle.sheet.specs.Sheet.{Sheet}
 use Rattle.result.specs.declared.Written.{Written}
 use Rattle.result.specs.declared.Written.the-variants.{Done}
-use Rattle.result.specs.ResultSheet.{balancedForm, resultLines, resultForms, resultNumbers}
+use Rattle.result.specs.ResultSheet.{balancedForm, resultLines, resultForms, resultLengths, resultNumbers}
 use Rattle.result.specs.Write.{writtenVerdict, writeRules, WriteOutcome}
-use Rattle.result.specs.Print.{Rows, FirstOver}
-use Rattle.result.proofs.Checks.{wrongLength, vector-rules, basis-rules}
+use Rattle.result.specs.Print.{FirstOver}
+use Rattle.result.proofs.Checks.{wrongLength}
 use Rattle.result.proofs.Sizes.{residues, limits}
 
 -- the range of a balanced number is that of its form
@@ -139,40 +139,66 @@ unfolding writtenVerdict
 none-hold {h} {lent} {text} o e =
     subst (λ (v : Verdict). Says (writeRules h lent text) v) (ap writtenVerdict e) (o .verdict)
 
--- the sheet of y
-pub vector-written
-    : (kind : Kind) (r rows n p : ℕ) {y text after : List ℕ} {w : Written} {l : ℕ} → Rows kind r rows
-    → WriteOutcome (header kind r n p) (y ∷ []) text w after → w ≡ Done l
-    → Sheet resultForms (take l after) (header kind r n p) (resultNumbers p (y ∷ []))
-unfolding flatten
-vector-written kind r rows n p {y} {text} {l = l} e o d =
-    let limited = limitRules r n p ++ sizeRules bytes r n in
-    let both = says-split limited _ (rw (vector-rules kind r rows n p y text e) at (none-hold o d)) in
-    let rest = says-tail _ _ (says-tail _ _ (both .1)) in
-    let bounds = limits r n p (both .0) in
-    let positive : 0 < p = omega (arith, bounds .terms-least, bounds .few) in
-    let exact = length-is 1 (rows * n) y _ (both .1) in
-    let silent = says-split (wordRules words p 1 y 0 (rows * n)) [] rest .0 in
-    let below = buffer-below p 1 y (rows * n) positive exact silent in
-    sheet-put kind r n p (y ∷ []) bounds (append-below p y [] below (λ k. positive)) (o .written l d)
+-- the silent rules of lengths: every buffer of words has its length, and so has the text
+lengths-exact
+    : (b : ℕ) (ls : List ℕ) (lent : List (List ℕ)) (l : ℕ) (text : List ℕ) → length lent ≡ length ls
+    → Says (lengthRules words b (ls ++ (l ∷ [])) (lent ++ (text ∷ []))) done
+    → (map length lent ≡ ls) × (length text ≡ l)
+unfolding lengthRules
+lengths-exact b [] [] l text e t = (refl, length-is b l text [] t)
+lengths-exact b [] (s ∷ lent) l text e t = absurd (omega arith)
+lengths-exact b (c ∷ ls) [] l text e t = absurd (omega arith)
+lengths-exact b (c ∷ ls) (s ∷ lent) l text e t =
+    let rest = lengths-exact (suc b) ls lent l text (omega arith) (says-tail _ _ t) in
+    (rw (length-is b c s _ t, rest .0), rest .1)
 
--- the sheet of Y and Z
-pub basis-written
-    : (r n p : ℕ) {y z text after : List ℕ} {w : Written} {l : ℕ}
-    → WriteOutcome (header Basis r n p) (y ∷ z ∷ []) text w after → w ≡ Done l
-    → Sheet resultForms (take l after) (header Basis r n p) (resultNumbers p (y ∷ z ∷ []))
-unfolding flatten
-basis-written r n p {y} {z} {text} {l = l} o d =
-    let limited = limitRules r n p ++ sizeRules bytes r n in
-    let both = says-split limited _ (rw (basis-rules r n p y z text) at (none-hold o d)) in
-    let behind-first = says-tail _ _ (both .1) in
-    let rest = says-tail _ _ (says-tail _ _ behind-first) in
-    let bounds = limits r n p (both .0) in
-    let positive : 0 < p = omega (arith, bounds .terms-least, bounds .few) in
-    let count = r * r * n in
-    let silent = says-split (wordRules words p 1 y 0 count) _ rest in
-    let second = says-split (wordRules words p 2 z 0 count) [] (silent .1) .0 in
-    let y-below = buffer-below p 1 y count positive (length-is 1 count y _ (both .1)) (silent .0) in
-    let z-below = buffer-below p 2 z count positive (length-is 2 count z _ behind-first) second in
-    let z-all = append-below p z [] z-below (λ k. positive) in
-    sheet-put Basis r n p (y ∷ z ∷ []) bounds (append-below p y (z ++ []) y-below z-all) (o .written l d)
+-- the silent rules of words: every word is a residue
+words-below
+    : (p b : ℕ) (ls : List ℕ) (lent : List (List ℕ)) → 0 < p → map length lent ≡ ls
+    → Says (readRules words p b (length lent) ls lent) done → (k : ℕ) → getD (flatten lent) k 0 < p
+unfolding readRules flatten
+words-below p b ls [] positive e t k = positive
+words-below p b [] (s ∷ lent) positive e t k = absurd (let q : _≡_ {A = ℕ} 0 1 = cc in omega arith)
+words-below p b (c ∷ ls) (s ∷ lent) positive e t k =
+    let exact : length s ≡ c = cc in
+    let others : map length lent ≡ ls = cc in
+    let both = says-split (wordRules words p b s 0 c) _ t in
+    append-below p s (flatten lent) (buffer-below p b s c positive exact (both .0))
+    (words-below p (suc b) ls lent positive others (both .1)) k
+
+-- what is written, of as many buffers as the kind has
+module _ {h : Header} {lent : List (List ℕ)} {text after : List ℕ} {w : Written} {l : ℕ}
+    (o : WriteOutcome h lent text w after) (d : w ≡ Done l) (all : length lent ≡ length (resultLengths h)) where
+  abbrev limited : List Rule
+  limited = limitRules (h .r) (h .n) (h .p) ++ sizeRules bytes (h .r) (h .n)
+
+  abbrev exact : List Rule
+  exact = lengthRules words 1 (resultLengths h ++ (65536 ∷ [])) (lent ++ (text ∷ []))
+
+  silent
+      : (Says limited done × Says exact done)
+      × Says (readRules words (h .p) 1 (length lent) (resultLengths h) lent) done
+  unfolding writeRules
+  silent =
+      let both = says-split (limited ++ exact) _ (none-hold o d) in
+      (says-split limited exact (both .0), both .1)
+
+  pub written-limits : Says limited done
+  written-limits = silent .0 .0
+
+  pub written-lengths : map length lent ≡ resultLengths h
+  written-lengths = lengths-exact 1 (resultLengths h) lent 65536 text all (silent .0 .1) .0
+
+  pub written-text : length text ≡ 65536
+  written-text = lengths-exact 1 (resultLengths h) lent 65536 text all (silent .0 .1) .1
+
+  pub written-below : (k : ℕ) → getD (flatten lent) k 0 < h .p
+  written-below =
+      let bounds = limits (h .r) (h .n) (h .p) written-limits in
+      words-below (h .p) 1 (resultLengths h) lent (omega (arith, bounds .terms-least, bounds .few)) written-lengths
+      (silent .1)
+
+  pub written-sheet : Sheet resultForms (take l after) h (resultNumbers (h .p) lent)
+  written-sheet =
+      let bounds = limits (h .r) (h .n) (h .p) written-limits in
+      sheet-put (h .kind) (h .r) (h .n) (h .p) lent bounds written-below (o .written l d)

@@ -12,9 +12,9 @@ use Rattle.job.specs.declared.Kind.the-variants.{System, Basis, Equation}
 use Rattle.job.specs.Refusal.{done, Says}
 use Rattle.job.specs.Job.{bytes}
 use Rattle.job.specs.Rules.{limitRules, sizeRules}
-use Rattle.job.proofs.Says.{says-split}
-use Rattle.job.proofs.Accepted.{Limits, limits-of, small-of}
+use Rattle.job.proofs.Accepted.{Limits}
 use Rattle.text.proofs.Digits.{below-or}
+use Rattle.sheet.proofs.Outcomes.{limited-limits, limited-small}
 use Rattle.result.specs.Print.{Rows, VectorReady, BasisReady, FirstOver}
 use Rattle.result.proofs.Products.{factor-within, rows-sum, matrix-sum}
 
@@ -27,10 +27,10 @@ residues {s = s} positive found all j = elim (below-or j (length s)) [
 
 module _ (r n p : ℕ) (passed : Says (limitRules r n p ++ sizeRules bytes r n) done) where
   pub limits : Limits r n p
-  limits = limits-of r n p (says-split (limitRules r n p) (sizeRules bytes r n) passed .0)
+  limits = limited-limits r n p passed
 
   pub small : r * r * n ≤ 1024
-  small = small-of r n (says-split (limitRules r n p) (sizeRules bytes r n) passed .1)
+  small = limited-small r n p passed .product
 
   pub square : r * r ≤ 64
   square = mul-le-mul (limits .order) (limits .order)

@@ -27,18 +27,19 @@ use Rattle.job.proofs.Says.{
 }
 use Rattle.refusal.specs.Checked.{Judged}
 use Rattle.refusal.proofs.Judged.{judged-done}
+use Rattle.text.specs.Lines.{Form, Begins}
+use Rattle.text.proofs.Lines.{begins-as}
 use Rattle.lines.specs.declared.Cursor.{Cursor}
 use Rattle.header.specs.declared.Header.{Header}
 use Rattle.header.specs.declared.Opening.{Opening}
 use Rattle.header.specs.declared.Opening.the-variants as opening
 use Rattle.sheet.specs.declared.Start.the-variants as start
 use Rattle.sheet.specs.declared.Reading.the-variants.{Refused, Broken}
-use Rattle.header.specs.Header.{wordOf}
+use Rattle.header.specs.Header.{headerForm}
 use Rattle.sheet.specs.Sheet.{Keeps}
-use Rattle.sheet.specs.JobSheet.{jobForms}
 use Rattle.sheet.specs.Rules.{readVerdict, roomRules, openRules}
 use Rattle.header.specs.Opened.{Opens, OpenedAs}
-use Rattle.sheet.specs.Parts.{RoomsChecked, Roomy, Opened, Started}
+use Rattle.sheet.specs.Parts.{RoomsChecked, Roomy, Led, Opened, Started, Starting}
 
 -- rooms of another length
 module _ {a b c : ℕ} where
@@ -87,54 +88,84 @@ rooms-roomy one two three s =
     equal n q = elim (ℕ-discrete n 2048) [ yes e ↦ e | no e ↦ absurd (q e) ]
 
 -- a header found for one kind
-pub opened-is : (s : List ℕ) (kind : Kind) (r : Opening) (h : Header) (c : Cursor) → r ≡ opening.Is h c
-    → OpenedAs kind (wordOf kind) s r → Opened s r
-opened-is s kind (opening.Is g d) h c e o =
-    subst (λ (k : Kind). Opens (wordOf k) s g d) (sym (o .0)) (o .1)
-opened-is s kind opening.Not h c e o = absurd (let q : _≡_ {A = ℕ} 0 1 = cc in omega arith)
+pub opened-is : (forms : Header → List Form) (lead : Kind → List ℕ) (s : List ℕ) (kind : Kind) (r : Opening)
+    (h : Header) (c : Cursor) → r ≡ opening.Is h c → OpenedAs kind (lead kind) s r → Opened forms lead s r
+opened-is forms lead s kind (opening.Is g d) h c e o =
+    subst (λ (k : Kind). Opens (lead k) s g d) (sym (o .0)) (o .1)
+opened-is forms lead s kind opening.Not h c e o = absurd (let q : _≡_ {A = ℕ} 0 1 = cc in omega arith)
 
--- one of the last kind, or none of any
-pub opened-last : (s : List ℕ) → OpenedAs System (wordOf System) s opening.Not
-    → OpenedAs Basis (wordOf Basis) s opening.Not → (r : Opening) → OpenedAs Equation (wordOf Equation) s r → Opened s r
-unfolding jobForms
-opened-last s a b (opening.Is h c) o = opened-is s Equation (opening.Is h c) h c refl o
-opened-last s a b opening.Not o = λ h k. none h k (h .kind) refl
-  where
-    none : (h : Header) → Keeps jobForms s h 1 → (kind : Kind) → h .kind ≡ kind → ⊥
-    none h k System e = a h (k .numbers) (k .rest) (k .short) (rw e at (k .begins))
-    none h k Basis e = b h (k .numbers) (k .rest) (k .short) (rw e at (k .begins))
-    none h k Equation e = o h (k .numbers) (k .rest) (k .short) (rw e at (k .begins))
+-- line 1 is the header behind the fields that lead
+module _ {forms : Header → List Form} {lead : Kind → List ℕ} (led : Led forms lead) (s : List ℕ) where
+  -- line 1 of a sheet, and a header there
+  keeps-header : {h : Header} (k : Keeps forms s h 1)
+      → Begins s (headerForm (lead (h .kind)) h ∷ []) (k .numbers) 0 (k .rest)
+  keeps-header {h} k = begins-as (led .first h) (k .begins)
 
--- line 1 stands
-pub opens-keeps : {s : List ℕ} {h : Header} {c : Cursor} → Opens (wordOf (h .kind)) s h c → Keeps jobForms s h 1
-unfolding jobForms
-opens-keeps o = record { short = o .short; numbers = λ k. pos 0; rest = _; begins = o .begins (λ k. pos 0) }
+  pub opens-keeps : {h : Header} {c : Cursor} → Opens (lead (h .kind)) s h c → Keeps forms s h 1
+  opens-keeps {h} o = record {
+    short = o .short;
+    numbers = λ k. pos 0;
+    rest = _;
+    begins = begins-as (sym (led .first h)) (o .begins (λ k. pos 0));
+  }
 
+  -- a header of the last kind, or none of any
+  pub opened-last : OpenedAs System (lead System) s opening.Not → OpenedAs Basis (lead Basis) s opening.Not
+      → (r : Opening) → OpenedAs Equation (lead Equation) s r → Opened forms lead s r
+  opened-last a b (opening.Is h c) o = opened-is forms lead s Equation (opening.Is h c) h c refl o
+  opened-last a b opening.Not o = λ h k. none h k (h .kind) refl
+    where
+      none : (h : Header) → Keeps forms s h 1 → (kind : Kind) → h .kind ≡ kind → ⊥
+      none h k System e = a h (k .numbers) (k .rest) (k .short) (rw e at (keeps-header k))
+      none h k Basis e = b h (k .numbers) (k .rest) (k .short) (rw e at (keeps-header k))
+      none h k Equation e = o h (k .numbers) (k .rest) (k .short) (rw e at (keeps-header k))
+
+  -- behind a header
+  module _ (short : length s ≤ 65536) {h : Header} {c : Cursor} (o : Opens (lead (h .kind)) s h c) where
+    opens-say : (v : Verdict) → Says (limitRules (h .r) (h .n) (h .p) ++ sizeRules bytes (h .r) (h .n)) v
+        → Says (openRules forms s h) v
+    unfolding openRules
+    opens-say v j = says-past _ _ _ (λ q. omega arith) (says-past _ _ _ (λ q. q (opens-keeps o)) j)
+
+    module _ {a : Answer} (j : Judged (limitRules (h .r) (h .n) (h .p) ++ sizeRules bytes (h .r) (h .n)) a) where
+      limits-stop : OtherThanDone a → Started forms lead s (start.Stop (Refused a))
+      unfolding readVerdict
+      limits-stop k = (
+        answer-other a k,
+        λ g l. subst (λ (x : Header). Says (openRules forms s x) (verdictOf a)) (l .same h (opens-keeps o))
+            (opens-say (verdictOf a) (j .says)),
+      )
+
+      limits-done : a ≡ Done → Started forms lead s (start.At h c)
+      limits-done e = record { opens = o; says = opens-say done (judged-done j e) }
+
+-- bytes, line 1, limits, for every sort
 module _ {s : List ℕ} where
-  pub start-large : 65536 < length s → Started s (start.Stop (Refused Large))
+  pub start-large : 65536 < length s → (o : Opening) → Starting s o (start.Stop (Refused Large))
   unfolding openRules readVerdict verdictOf
-  start-large h = ((λ e. refused-not-done 10 0 0 e), λ g l. says-here _ _ h)
+  start-large h o = record {
+    started = λ forms lead led x. ((λ e. refused-not-done 10 0 0 e), λ g l. says-here _ _ h);
+  }
 
   module _ (short : length s ≤ 65536) where
-    pub start-broken : Opened s opening.Not → Started s (start.Stop (Broken 1))
+    pub start-broken : {o : Opening} → o ≡ opening.Not → Starting s o (start.Stop (Broken 1))
     unfolding openRules readVerdict
-    start-broken o =
-        ((λ e. refused-not-done 9 1 0 e), λ g l. says-past _ _ _ (λ q. omega arith) (says-here _ _ (o g)))
+    start-broken e = record {
+      started = λ forms lead led x. (
+        (λ q. refused-not-done 9 1 0 q),
+        λ g l. says-past _ _ _ (λ q. omega arith)
+            (says-here _ _ (subst (λ (y : Opening). Opened forms lead s y) e x g)),
+      );
+    }
 
-    module _ {h : Header} {c : Cursor} (o : Opens (wordOf (h .kind)) s h c) where
-      opens-say : (v : Verdict) → Says (limitRules (h .r) (h .n) (h .p) ++ sizeRules bytes (h .r) (h .n)) v
-          → Says (openRules jobForms s h) v
-      unfolding openRules
-      opens-say v j = says-past _ _ _ (λ q. omega arith) (says-past _ _ _ (λ q. q (opens-keeps o)) j)
+    module _ {h : Header} {c : Cursor} {o : Opening} (e : o ≡ opening.Is h c) {a : Answer}
+        (j : Judged (limitRules (h .r) (h .n) (h .p) ++ sizeRules bytes (h .r) (h .n)) a) where
+      found : (forms : Header → List Form) (lead : Kind → List ℕ) → Opened forms lead s o → Opens (lead (h .kind)) s h c
+      found forms lead x = subst (λ (y : Opening). Opened forms lead s y) e x
 
-      module _ {a : Answer} (j : Judged (limitRules (h .r) (h .n) (h .p) ++ sizeRules bytes (h .r) (h .n)) a) where
-        pub start-limits : OtherThanDone a → Started s (start.Stop (Refused a))
-        unfolding readVerdict
-        start-limits k = (
-          answer-other a k,
-          λ g l. subst (λ (x : Header). Says (openRules jobForms s x) (verdictOf a)) (l .same h (opens-keeps o))
-              (opens-say (verdictOf a) (j .says)),
-        )
+      pub start-limits : OtherThanDone a → Starting s o (start.Stop (Refused a))
+      start-limits k =
+          record { started = λ forms lead led x. limits-stop led s short (found forms lead x) j k }
 
-        pub start-at : a ≡ Done → Started s (start.At h c)
-        start-at e = (o, opens-say done (judged-done j e))
+      pub start-at : a ≡ Done → Starting s o (start.At h c)
+      start-at d = record { started = λ forms lead led x. limits-done led s short (found forms lead x) j d }

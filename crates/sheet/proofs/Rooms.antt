@@ -37,7 +37,7 @@ filled-more {p} {z} {i} {n} {before} {after} f l x e =
     }
 
 -- a room that gets no word
-filled-nothing : {p : ℕ} {z : ℕ → ℤ} {i : ℕ} {before after : List ℕ} → Filled p z i 0 before after → after ≡ before
+pub filled-nothing : {p : ℕ} {z : ℕ → ℤ} {i : ℕ} {before after : List ℕ} → Filled p z i 0 before after → after ≡ before
 filled-nothing {before = before} {after = after} f =
     ext-getD 0 after before (f .len) (λ k l. f .others k (omega arith))
 

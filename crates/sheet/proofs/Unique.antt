@@ -2,13 +2,13 @@
 -- the rooms afterwards follow from the text and the rooms.
 -- Assumes nothing.
 use mathlib.Core.Path.{_≡_, refl, sym, ap, subst, _∙_}
-use mathlib.Core.List.{List, [], _∷_}
+use mathlib.Core.List.{List, [], _∷_, _++_}
 use mathlib.Core.Logic.{inl, inr}
-use Prim.Native.Nat.{ℕ, _+_}
+use Prim.Native.Nat.{ℕ, _+_, _-_, _≤_}
 use native.Mathlib.Decide.{ℕ-discrete}
 use native.Mathlib.Omega.{arith}
 use lib.IntN.{ℤ}
-use lib.ListN.{take, drop, take-append-drop}
+use lib.ListN.{length, take, drop, take-append-drop}
 use lib.Seq.{ext-getD}
 use Rattle.job.specs.declared.Kind.the-variants.{System}
 use Rattle.job.specs.declared.Answer.{Answer}
@@ -24,9 +24,10 @@ use Rattle.job.specs.declared.Answer.the-variants.{
   LeadingZero,
   Large,
 }
-use Rattle.job.specs.Job.{carried}
-use Rattle.job.specs.Refusal.{Verdict, done, refused, verdictOf}
-use Rattle.job.proofs.Says.{says-unique, refused-not-done}
+use Rattle.job.specs.Job.{carried, bytes}
+use Rattle.job.specs.Refusal.{Verdict, done, refused, Says, verdictOf}
+use Rattle.job.specs.Rules.{limitRules, sizeRules}
+use Rattle.job.proofs.Says.{says-unique, says-past, says-append-done, refused-not-done}
 use Rattle.job.proofs.Unique.{answer-same}
 use Rattle.text.specs.Class.{residue}
 use Rattle.text.specs.Lines.{Form, total}
@@ -38,10 +39,12 @@ use Rattle.sheet.specs.declared.Reading.the-variants.{Done, Refused, Bro
 use Rattle.header.specs.Header.{header}
 use Rattle.sheet.specs.Sheet.{Sheet, Keeps, FirstLine}
 use Rattle.sheet.specs.JobSheet.{jobForms, jobLengths}
-use Rattle.sheet.specs.Rules.{readVerdict, sheetRules}
+use Rattle.sheet.specs.Rules.{readVerdict, roomRules, openRules, lineRules, sheetRules}
 use Rattle.sheet.specs.Rooms.{Filled, FilledAll}
 use Rattle.sheet.specs.Read.{Taken, ReadOutcome, JobOutcome}
-use Rattle.sheet.proofs.Headers.{job-header}
+use Rattle.sheet.proofs.Headers.{one-header}
+use Rattle.sheet.proofs.Outcomes.{job-led}
+use Rattle.sheet.proofs.Verdicts.{sheet-says}
 use Rattle.body.proofs.Totals.{signedNumbers, sumOf, lines-total}
 
 -- equality of verdicts is decided
@@ -109,7 +112,7 @@ all-same p i (l ∷ ls) y z (r ∷ rs) (s ∷ ss) (t ∷ ts) a f g =
 module _ (forms : Header → List Form)
     (decides : (s : List ℕ) (g h : Header) → Keeps forms s g 1 → Keeps forms s h 1 → g ≡ h) where
   -- a sheet keeps its first line
-  sheet-keeps : {s : List ℕ} {h : Header} {z : ℕ → ℤ} → Sheet forms s h z → Keeps forms s h 1
+  pub sheet-keeps : {s : List ℕ} {h : Header} {z : ℕ → ℤ} → Sheet forms s h z → Keeps forms s h 1
   sheet-keeps {s} {h} {z} a =
       let all = begins-as (sym (take-append-drop 1 (forms h))) (a .whole) in
       let first = begins-split (take 1 (forms h)) (drop 1 (forms h)) all in
@@ -157,6 +160,39 @@ module _ (forms : Header → List Form)
           refusal-same x y (λ d. refused-not-done m k l (sym e ∙ d)) same,
           f .kept m k l e ∙ sym (g .kept m k l (sym same ∙ e)),
         )
+
+    -- a sheet that no room, no size and no limit refuses is taken
+    pub sheet-outcome : {h : Header} {z : ℕ → ℤ} {after : List (List ℕ)} → Sheet forms s h z → length s ≤ 65536
+        → Says (roomRules rooms) done
+        → Says (limitRules (h .r) (h .n) (h .p) ++ sizeRules bytes (h .r) (h .n)) done
+        → FilledAll (h .p) z 0 (lengths h) rooms after → ReadOutcome forms lengths s rooms (Done h) after
+    unfolding openRules sheetRules readVerdict
+    sheet-outcome {h} {z} a short room limits filled =
+        let keeps = sheet-keeps a in
+        let rest = lineRules forms s h 2 (length (forms h) - 1) in
+        let opened : Says (openRules forms s h) done =
+        says-past _ _ _ (λ q. omega arith) (says-past _ _ _ (λ q. q keeps) limits) in
+        let first = says-append-done (roomRules rooms) (openRules forms s h) done room opened in
+        let silent = says-append-done (roomRules rooms ++ openRules forms s h) rest done first
+        (sheet-says forms s h a 2 (length (forms h) - 1)) in
+        record {
+          verdict = λ g l. subst (λ (k : Header). Says (sheetRules forms s rooms k) done) (l .same h keeps) silent;
+          kept = λ m k l e. absurd (refused-not-done m k l (sym e));
+          taken = λ e. record { header = h; brought = refl; numbers = z; sheet = a; filled = filled };
+        }
+
+    -- a text that is taken is refused by no rule
+    pub outcome-silent : {x : Reading} {after : List (List ℕ)} (o : ReadOutcome forms lengths s rooms x after)
+        (d : readVerdict x ≡ done) → Says (sheetRules forms s rooms (o .taken d .header)) done
+    outcome-silent o d =
+        let t = o .taken d in
+        let h = t .header in
+        let first = o .verdict h (record { same = λ g k. decides s g h k (sheet-keeps (t .sheet)) }) in
+        subst (λ (v : Verdict). Says (sheetRules forms s rooms h) v) d first
+
+-- line 1 of a job sheet decides its header
+pub job-header : (s : List ℕ) (g h : Header) → Keeps jobForms s g 1 → Keeps jobForms s h 1 → g ≡ h
+job-header = one-header [] job-led
 
 -- the numbers of a job sheet are as many as the words of its job's read buffers
 job-total : (h : Header) → total (jobForms h) ≡ sumOf (jobLengths h)

@@ -13,11 +13,15 @@ use Rattle.job.proofs.Says.{says-none, says-here, says-past}
 use Rattle.text.specs.Lines.{Form, total, Begins}
 use Rattle.text.proofs.Lines.{begins-append, begins-split, begins-rest, begins-same, begins-as}
 use Rattle.lines.specs.declared.Cursor.{Cursor}
-use Rattle.lines.specs.Steps.{nth, Passed, Breaks}
+use Rattle.lines.specs.declared.Step.{Step}
+use Rattle.lines.specs.declared.Step.the-variants as step
+use Rattle.lines.specs.Steps.{nth, Passed, Breaks, Read}
 use Rattle.header.specs.declared.Header.{Header}
 use Rattle.header.specs.Header.{headerForm}
 use Rattle.sheet.specs.Sheet.{Sheet, Keeps}
+use Rattle.sheet.specs.declared.Body.the-variants as body
 use Rattle.sheet.specs.Rules.{lineRules}
+use Rattle.sheet.specs.Parts.{Inside, Closing}
 use Rattle.header.specs.Opened.{Opens}
 
 -- a text that begins with some lines begins with the first of them
@@ -90,7 +94,7 @@ module _ (forms : Header → List Form) {lead s : List ℕ} {h : Header} {c : Cu
       let begins = joined (begins-as (take-take k m fs l) (some .1)) in
       record { short = o .short; numbers = z; rest = some .0; begins = rw e begins }
 
-  pub broken-says : {old new : List ℤ} {number : ℕ} → Breaks s c fs 0 old new number
+  broken-says : {old new : List ℤ} {number : ℕ} → Breaks s c fs 0 old new number
       → Says (lineRules forms s h 2 (length (forms h) - 1)) (refused 9 number 0)
   broken-says {new = new} {number = number} b =
       let m = b .before in
@@ -105,7 +109,7 @@ module _ (forms : Header → List Form) {lead s : List ℕ} {h : Header} {c : Cu
       subst (λ (i : ℕ). Keeps forms s h i) q (keeps (suc j) m l (nth new) (b .rest) (b .begins))) none)
 
   module _ {old new : List ℤ} {d : Cursor} (p : Passed s c fs 0 old new d) where
-    pub extra-says : d .byte < length s
+    extra-says : d .byte < length s
         → Says (lineRules forms s h 2 (length (forms h) - 1)) (refused 9 (d .line + 1) 0)
     extra-says l =
         let count : length (forms h) - 1 ≡ length fs = rw e (omega arith) in
@@ -119,7 +123,33 @@ module _ (forms : Header → List Form) {lead s : List ℕ} {h : Header} {c : Cu
         let rest = begins-same (p .begins) (behind fs (rw e at (a .whole))) .1 in
         omega (arith, ap length rest, length-drop (d .byte) s)))
 
-    pub whole-sheet : length s ≤ d .byte → Sheet forms s h (nth new)
+    whole-sheet : length s ≤ d .byte → Sheet forms s h (nth new)
     whole-sheet l =
         let none : drop (d .byte) s ≡ [] = drop-of-length-le s {i = d .byte} l in
         record { short = o .short; whole = rw e (joined (rw none at (p .begins))) }
+
+-- what was read is within the text
+pub read-inside : (s : List ℕ) (c : Cursor) (fs : List Form) (old new : List ℤ) (t : Step) → Read s c fs 0 old new t
+    → Inside s t
+read-inside s c fs old new (step.Next d) r = r .placed
+read-inside s c fs old new (step.Broken number) r = tt
+
+-- what was read, for every sort
+module _ {s : List ℕ} {t : Step} where
+  pub close-extra : {d : Cursor} → t ≡ step.Next d → d .byte < length s → Closing s t (body.Broken (d .line + 1))
+  close-extra e l = record {
+    bodied = λ forms lead h c fs old new o q r.
+        extra-says forms o q (subst (λ (x : Step). Read s c fs 0 old new x) e r) l;
+  }
+
+  pub close-whole : {d : Cursor} → t ≡ step.Next d → length s ≤ d .byte → Closing s t body.Whole
+  close-whole e l = record {
+    bodied = λ forms lead h c fs old new o q r.
+        whole-sheet forms o q (subst (λ (x : Step). Read s c fs 0 old new x) e r) l;
+  }
+
+  pub close-broken : {number : ℕ} → t ≡ step.Broken number → Closing s t (body.Broken number)
+  close-broken e = record {
+    bodied = λ forms lead h c fs old new o q r.
+        broken-says forms o q (subst (λ (x : Step). Read s c fs 0 old new x) e r);
+  }

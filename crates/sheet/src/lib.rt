@@ -11,18 +11,22 @@ ghost use mathlib.Core.List.{[], _∷_};
 ghost use Prim.Native.Nat.{_+_, _≤_, _<_};
 ghost use lib.ListN.{length};
 ghost use Rattle.lines.specs.Steps.{nth};
+ghost use Rattle.header.specs.Header.{wordOf};
 ghost use Rattle.body.specs.Parts.{Measured};
-ghost use Rattle.sheet.specs.Rooms.{Filled};
+ghost use Rattle.sheet.specs.JobSheet.{jobForms, jobLengths};
 ghost use Rattle.sheet.specs.Read.{JobOutcome};
+ghost use Rattle.sheet.specs.Rooms.{Filled};
 ghost use Rattle.sheet.specs.Parts.{
-  Opened,
-  Started,
-  RoomsChecked,
-  Fillable,
   Entered,
+  Opened,
+  Starting,
+  Inside,
   Bodied,
-  Roomy,
+  Closing,
   Finished,
+  RoomsChecked,
+  Roomy,
+  Fillable,
 };
 
 // What a reader of sheets answers: done, with what line 1 says; a refusal; or 9, at a line, from 1. `readVerdict` of
@@ -47,7 +51,7 @@ pub enum Body {
 
 // Line 1 of a job sheet.
 fn open_job(s: &[u8]) -> Opening
-    ensures { λ r. ⌜ Opened (now (s .entry)) r ⌝ }
+    ensures { λ r. ⌜ Opened jobForms wordOf (now (s .entry)) r ⌝ }
 {
     let system = header::open_as(s, Kind::System, b"system");
     let Opening::Not = system else {
@@ -60,14 +64,14 @@ fn open_job(s: &[u8]) -> Opening
     header::open_as(s, Kind::Equation, b"equation")
 }
 
-// 10 for bytes, 9 for line 1, 1 to 4, and 10 for r*r*N.
-fn start_job(s: &[u8]) -> Start
-    ensures { λ r. ⌜ Started (now (s .entry)) r ⌝ }
+// 10 for bytes, 9 for line 1, 1 to 4, and 10 for r*r*N, where line 1 is what the opening says.
+pub fn begin(s: &[u8], opening: Opening) -> Start
+    ensures { λ r. ⌜ Starting (now (s .entry)) opening r ⌝ }
 {
     if s.len() > 65536 {
         return Start::Stop(Reading::Refused(Answer::Large));
     }
-    let Opening::Is(h, c) = open_job(s) else {
+    let Opening::Is(h, c) = opening else {
         return Start::Stop(Reading::Broken(1));
     };
     let limits = refusal::check_small(h.r, h.n, h.p);
@@ -75,6 +79,24 @@ fn start_job(s: &[u8]) -> Start
         return Start::Stop(Reading::Refused(limits));
     };
     Start::At(h, c)
+}
+
+// The text ends behind the lines that were read, or a line is broken.
+pub fn finish(s: &[u8], step: Step) -> Body
+    requires { ⌜ Inside (now s) step ⌝ }
+    ensures { λ b. ⌜ Closing (now (s .entry)) step b ⌝ }
+{
+    match step {
+        Step::Next(d) => {
+            let at = d.byte;
+            if at < s.len() {
+                Body::Broken(d.line + 1)
+            } else {
+                Body::Whole
+            }
+        }
+        Step::Broken(line) => Body::Broken(line),
+    }
 }
 
 // 5 for rooms of such lengths.
@@ -121,8 +143,10 @@ fn fill_rooms(p: u32, w: &[i64], l: Lengths, one: &mut [u32], two: &mut [u32], t
 
 // The lines behind line 1, to the end of the text; their numbers are stored.
 fn read_body(s: &[u8], h: Header, c: Cursor, l: Lengths, w: &mut [i64]) -> Body
-    requires { ⌜ Entered (now s) h c × Measured (h .kind) (h .r) (h .n) l × (3080 ≤ length (now w)) ⌝ }
-    ensures { λ b. ⌜ Bodied (now (s .entry)) h (now (w .exit)) b ⌝ }
+    requires { ⌜
+        Entered jobForms wordOf (now s) h c × Measured (h .kind) (h .r) (h .n) l × (3080 ≤ length (now w))
+        ⌝ }
+    ensures { λ b. ⌜ Bodied jobForms (now (s .entry)) h (now (w .exit)) b ⌝ }
 {
     let kind = h.kind;
     let r = h.r as usize;
@@ -138,17 +162,7 @@ fn read_body(s: &[u8], h: Header, c: Cursor, l: Lengths, w: &mut [i64]) -> Body
         low,
         high,
     };
-    match body::read_lines(s, c, kind, r, series, values, l, w) {
-        Step::Next(d) => {
-            let at = d.byte;
-            if at < s.len() {
-                Body::Broken(d.line + 1)
-            } else {
-                Body::Whole
-            }
-        }
-        Step::Broken(line) => Body::Broken(line),
-    }
+    finish(s, body::read_lines(s, c, kind, r, series, values, l, w))
 }
 
 // Behind a header that nothing refuses: the lines, and where they are a whole sheet, the rooms.
@@ -160,10 +174,10 @@ fn take_job(
     two: &mut [u32],
     three: &mut [u32],
 ) -> Reading
-    requires { ⌜ Entered (now s) h c × Roomy (now one) (now two) (now three) ⌝ }
+    requires { ⌜ Entered jobForms wordOf (now s) h c × Roomy (now one) (now two) (now three) ⌝ }
     ensures { λ r. ⌜
-        Finished (now (s .entry)) h (now (one .entry) ∷ now (two .entry) ∷ now (three .entry) ∷ []) r
-        (now (one .exit) ∷ now (two .exit) ∷ now (three .exit) ∷ [])
+        Finished jobForms jobLengths (now (s .entry)) h (now (one .entry) ∷ now (two .entry) ∷ now (three .entry) ∷ [])
+        r (now (one .exit) ∷ now (two .exit) ∷ now (three .exit) ∷ [])
         ⌝ }
 {
     let kind = h.kind;
@@ -189,7 +203,7 @@ pub fn read_job(s: &[u8], one: &mut [u32], two: &mut [u32], three: &mut [u32]) -
     let Answer::Done = rooms else {
         return Reading::Refused(rooms);
     };
-    match start_job(s) {
+    match begin(s, open_job(s)) {
         Start::At(h, c) => take_job(s, h, c, one, two, three),
         Start::Stop(answer) => answer,
     }

@@ -3,7 +3,9 @@
 use borrow.Author.Needs.{needs}
 use Rattle.job.specs.declared.Kind.the-variants.{System, Basis}
 use Rattle.header.specs.Header.{wordOf}
+use Rattle.sheet.specs.JobSheet.{jobForms}
 use Rattle.sheet.proofs.Before.{opened-is, opened-last}
+use Rattle.sheet.proofs.Outcomes.{job-led}
 use Rattle.sheet.proofs.open_job.Statement.{statement}
 use Rattle.sheet.proofs.open_job.Tie as tie
 
@@ -25,7 +27,7 @@ returns c =
     let first = c .before .before in
     let o = first .open-as in
     let text = first .before .before .before .args .s .now in
-    opened-is text System (o .result) _ _ (c .enum-told2 .given .1) (o .ensures)
+    opened-is jobForms wordOf text System (o .result) _ _ (c .enum-told2 .given .1) (o .ensures)
 
 slice-aggregate-open-as-2 : tie.Need-slice-aggregate-open-as-2
 slice-aggregate-open-as-2 c = search needs
@@ -45,7 +47,8 @@ returns-2 c =
     let second = c .before .before in
     let first = second .before .before .before .before in
     let o = second .open-as2 in
-    opened-is (first .before .before .before .args .s .now) Basis (o .result) _ _ (c .enum-told4 .given .1) (o .ensures)
+    let text = first .before .before .before .args .s .now in
+    opened-is jobForms wordOf text Basis (o .result) _ _ (c .enum-told4 .given .1) (o .ensures)
 
 slice-aggregate-open-as-3 : tie.Need-slice-aggregate-open-as-3
 slice-aggregate-open-as-3 c = search needs
@@ -61,7 +64,7 @@ returns-3 c =
     let system = rw (first .enum-told .given .1) at (first .before .before .open-as .ensures) in
     let basis = rw (second .enum-told3 .given .1) at (second .before .before .open-as2 .ensures) in
     let text = first .before .before .before .before .before .args .s .now in
-    opened-last text system basis (c .open-as3 .result) (c .open-as3 .ensures)
+    opened-last job-led text system basis (c .open-as3 .result) (c .open-as3 .ensures)
 
 pub open-job-spec : {M : Type 1} → statement M
 open-job-spec =

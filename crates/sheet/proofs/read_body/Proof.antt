@@ -4,7 +4,7 @@ use mathlib.Core.Path.{refl, sym}
 use native.Mathlib.Omega.{arith}
 use borrow.Author.Needs.{needs}
 use Rattle.sheet.specs.JobSheet.{jobForms}
-use Rattle.sheet.proofs.Verdicts.{broken-says, extra-says, whole-sheet}
+use Rattle.sheet.proofs.Verdicts.{read-inside}
 use Rattle.sheet.proofs.Outcomes.{carried-all, job-forms, entered-small}
 use Rattle.sheet.proofs.read_body.Statement.{statement}
 use Rattle.sheet.proofs.read_body.Tie as tie
@@ -26,61 +26,18 @@ read-lines-requires c κs =
       room = s .pre .2;
     }
 
-enum-known-d : tie.Need-enum-known-d
-enum-known-d c = search needs
-
-add-t23 : tie.Need-add-t23
-add-t23 c =
-    let found = c .before .before .before in
-    let passed = rw (found .d .given .1) at (found .before .before .before .read-lines .ensures) in
-    omega (arith, passed .placed .line, passed .placed .byte)
-
-enum-known-line : tie.Need-enum-known-line
-enum-known-line c = search needs
+finish-requires : tie.Need-finish-requires
+finish-requires c κs = read-inside _ _ _ _ _ (c .before .read-lines .result) (c .before .read-lines .ensures)
 
 same-length : tie.Need-same-length
 same-length c = search needs
 
 returns : tie.Need-returns
 returns c =
-    let found = c .before .before .before in
-    let lines = found .before .before .before in
+    let lines = c .before .before in
     let s = lines .before .before .before in
-    let passed = rw (found .d .given .1) at (lines .read-lines .ensures) in
-    extra-says jobForms (s .pre .0 .opens) (job-forms (s .args .h)) passed (c .before .if1 .taken)
-
-same-length-2 : tie.Need-same-length-2
-same-length-2 c = search needs
-
-returns-2 : tie.Need-returns-2
-returns-2 c =
-    let found = c .before .before in
-    let lines = found .before .before .before in
-    let s = lines .before .before .before in
-    let passed = rw (found .d .given .1) at (lines .read-lines .ensures) in
-    whole-sheet jobForms (s .pre .0 .opens) (job-forms (s .args .h)) passed (c .if1 .left)
-
-same-length-3 : tie.Need-same-length-3
-same-length-3 c = search needs
-
-returns-3 : tie.Need-returns-3
-returns-3 c =
-    let lines = c .before .before .before .before in
-    let s = lines .before .before .before in
-    broken-says jobForms (s .pre .0 .opens) (job-forms (s .args .h))
-    (rw (c .before .line .given .1) at (lines .read-lines .ensures))
+    c .finish .ensures .bodied jobForms _ (s .args .h) _ _ _ _ (s .pre .0 .opens) (job-forms (s .args .h))
+    (lines .read-lines .ensures)
 
 pub read-body-spec : {M : Type 1} → statement M
-read-body-spec =
-    tie.close
-    (tie.spec
-    read-lines-requires
-    enum-known-d
-    add-t23
-    enum-known-line
-    same-length
-    returns
-    same-length-2
-    returns-2
-    same-length-3
-    returns-3)
+read-body-spec = tie.close (tie.spec read-lines-requires finish-requires same-length returns)

@@ -5,9 +5,12 @@ use mathlib.Core.List.{[], _∷_}
 use borrow.Author.Needs.{needs}
 use Rattle.job.specs.Refusal.{done, Says, verdictOf}
 use Rattle.job.proofs.Says.{answer-other}
+use Rattle.header.specs.Header.{wordOf}
+use Rattle.sheet.specs.JobSheet.{jobForms}
 use Rattle.sheet.specs.Rules.{roomRules}
+use Rattle.sheet.specs.Parts.{Started}
 use Rattle.sheet.proofs.Before.{rooms-roomy}
-use Rattle.sheet.proofs.Outcomes.{outcome-rooms, outcome-stop, outcome-taken}
+use Rattle.sheet.proofs.Outcomes.{job-led, outcome-rooms, outcome-stop, outcome-taken}
 use Rattle.sheet.proofs.read_job.Statement.{statement}
 use Rattle.sheet.proofs.read_job.Tie as tie
 
@@ -24,8 +27,11 @@ returns c =
     outcome-rooms (answer-other (r .result) (c .match .keys2))
     (r .ensures .says _ (a .one .now) (a .two .now) (a .three .now) refl refl refl refl)
 
-start-job-requires : tie.Need-start-job-requires
-start-job-requires c κs = search needs
+open-job-requires : tie.Need-open-job-requires
+open-job-requires c κs = search needs
+
+begin-requires : tie.Need-begin-requires
+begin-requires c κs = search needs
 
 enum-known-h : tie.Need-enum-known-h
 enum-known-h c = search needs
@@ -42,14 +48,21 @@ rooms-done c =
     let checked = rw (c .enum-told .given .1) at (r .check-rooms .ensures) in
     checked .says _ (a .one .now) (a .two .now) (a .three .now) refl refl refl refl
 
+-- what line 1 and its limits say
+begun
+    : (c : tie.After-begin) →
+    let r = c .before .before in
+    let a = r .before .before .before .before .before .before .before .args in
+    Started jobForms wordOf (a .s .now) (c .begin .result)
+begun c = c .begin .ensures .started jobForms wordOf job-led (c .before .open-job .ensures)
+
 take-job-requires : tie.Need-take-job-requires
 take-job-requires c κs =
     let found = c .before .before .before .before in
     let start = found .before .before in
-    let r = start .before in
-    let a = r .before .before .before .before .before .before .before .args in
-    let started = rw (found .h .given .1) at (start .start-job .ensures) in (
-      record { opens = started .0; says = started .1 },
+    let r = start .before .before in
+    let a = r .before .before .before .before .before .before .before .args in (
+      rw (found .h .given .1) at (begun start),
       rooms-roomy (a .one .now) (a .two .now) (a .three .now) (rooms-done r),
     )
 
@@ -70,15 +83,14 @@ returns-2 c =
     let take = c .before .before .before .before .before .before in
     let found = take .before .before .before .before .before in
     let start = found .before .before in
-    let started = rw (found .h .given .1) at (start .start-job .ensures) in
-    outcome-taken (rooms-done (start .before)) (record { opens = started .0; says = started .1 })
+    outcome-taken wordOf (rooms-done (start .before .before)) job-led (rw (found .h .given .1) at (begun start))
     (take .take-job .ensures)
 
 returns-3 : tie.Need-returns-3
 returns-3 c =
     let found = c .before in
     let start = found .before .before in
-    outcome-stop (rooms-done (start .before)) (rw (found .answer .given .1) at (start .start-job .ensures))
+    outcome-stop wordOf (rooms-done (start .before .before)) (rw (found .answer .given .1) at (begun start))
 
 pub read-job-spec : {M : Type 1} → statement M
 read-job-spec =
@@ -87,7 +99,8 @@ read-job-spec =
     check-rooms-requires
     enum-told
     returns
-    start-job-requires
+    open-job-requires
+    begin-requires
     enum-known-h
     take-job-requires
     enum-known-answer

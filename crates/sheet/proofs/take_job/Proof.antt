@@ -9,6 +9,7 @@ use Rattle.sheet.proofs.Outcomes.{
   finished-broken,
   finished-done,
 }
+use Rattle.sheet.proofs.Rooms.{rooms-filled}
 use Rattle.sheet.proofs.take_job.Statement.{statement}
 use Rattle.sheet.proofs.take_job.Tie as tie
 
@@ -61,7 +62,9 @@ returns c =
     let body = whole .before .before .before in
     let f = fill .fill-rooms .ensures in
     let sheet = rw (whole .enum-told .given .1) at (body .read-body .ensures) in
-    finished-done sheet (body .before .before .measure .ensures) (f .0) (f .1) (f .2)
+    let h = body .before .before .before .before .before .before .before .args .h in
+    let measured = body .before .before .measure .ensures in
+    finished-done sheet (rooms-filled (h .kind) (h .r) (h .n) _ measured (f .0) (f .1) (f .2))
 
 returns-2 : tie.Need-returns-2
 returns-2 c =
