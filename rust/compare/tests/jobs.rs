@@ -1,6 +1,7 @@
 //! Jobs on words and on bytes: the library against the second program, buffer for buffer.
 
 use compare::Tally;
+use pealvixen::{Basis, Method, Room, System};
 use reference::jobs::{lengths, WordJob};
 use reference::random::{any_byte_job, any_job, damage_job, good_job_of, sound_job};
 use reference::random::{Bounds, Random, DAMAGES, QUICK, SEED};
@@ -120,11 +121,73 @@ fn long_jobs() {
             both(&mut words, &mut bytes, &job);
         }
     }
-    // The largest jobs there are, but for the basis, at which the second program would sit for a minute.
+    // The largest jobs there are, but for the basis: see below.
     for kind in [Kind::System, Kind::Equation] {
         words.words(&sound_job(&mut random, kind, 8, 4096, LARGEST));
     }
     report("long jobs", &words, &bytes);
+}
+
+/// The largest basis, at which the second program would sit for a minute: column after column it is the system by
+/// halving, and Y Z w is w for a random w.
+#[test]
+fn the_largest_basis() {
+    let (r, n) = (8, 4096);
+    let mut random = Random::new(SEED + 7);
+    let job = sound_job(&mut random, Kind::Basis, r as u64, n as u64, LARGEST);
+    let (a, y0) = (&job.buffers[0], &job.buffers[1]);
+    let (wide_r, wide_n) = (r as u64, n as u64);
+    let mut room = Room::new();
+    let basis = Basis {
+        r: wide_r,
+        n: wide_n,
+        p: LARGEST,
+        a,
+        y0,
+    };
+    let found = basis.solve(&mut room).unwrap();
+    let mut other = Room::new();
+    for column in 0..r {
+        let v: Vec<u32> = (0..r).map(|row| y0[row * r + column]).collect();
+        let system = System {
+            r: wide_r,
+            n: wide_n,
+            p: LARGEST,
+            a,
+            b: &vec![0; r * n],
+            v: &v,
+        };
+        let y = system.solve(Method::Halving, &mut other).unwrap();
+        for row in 0..r {
+            assert!(y.row(row) == found.y.entry(row, column));
+        }
+    }
+
+    let w: Vec<u64> = (0..r).map(|_| random.below(LARGEST)).collect();
+    let mixed = |row: usize, k: usize| {
+        let term = |column: usize| u64::from(found.z.entry(row, column)[k]) * w[column] % LARGEST;
+        (0..r).map(term).sum::<u64>() % LARGEST
+    };
+    let zw: Vec<Vec<u64>> = (0..r)
+        .map(|row| (0..n).map(|k| mixed(row, k)).collect())
+        .collect();
+    for row in 0..r {
+        for k in 0..n {
+            let mut sum = 0u128;
+            for (column, series) in zw.iter().enumerate() {
+                let left = &found.y.entry(row, column)[..=k];
+                let right = series[..=k].iter().rev();
+                sum += left
+                    .iter()
+                    .zip(right)
+                    .map(|(&y, &z)| u128::from(u64::from(y) * z))
+                    .sum::<u128>();
+            }
+            let wanted = if k == 0 { w[row] } else { 0 };
+            assert_eq!((sum % u128::from(LARGEST)) as u64, wanted);
+        }
+    }
+    println!("the largest basis: its columns by halving, and its inverse");
 }
 
 #[test]

@@ -220,7 +220,7 @@ impl<C: Cell> Equation<'_, C> {
     /// # Ok::<(), Refusal>(())
     /// ```
     ///
-    /// By Newton, and on bytes:
+    /// By Newton:
     ///
     /// ```no_run
     /// use pealvixen::{Equation, Method, Room};
@@ -228,9 +228,20 @@ impl<C: Cell> Equation<'_, C> {
     /// // y' = 3, y(0) = 2 modulo 7.
     /// let job = Equation { r: 1, n: 2, p: 7, a: &[0, 0, 1, 0], b: &[3, 0], start: &[2] };
     /// assert_eq!(job.solve(Method::Newton, &mut Room::new())?, [2, 3]);
+    /// # Ok::<(), pealvixen::Refusal>(())
+    /// ```
+    ///
+    /// On bytes:
+    ///
+    /// ```no_run
+    /// use pealvixen::{Equation, Method, Room};
+    ///
+    /// // y' = 0, y(0) = 2 modulo 7, one term.
     /// let a = [0, 0, 0, 0, 1, 0, 0, 0];
     /// let job = Equation { r: 1, n: 1, p: 7, a: &a, b: &[0; 4], start: &[2, 0, 0, 0] };
-    /// assert_eq!(job.solve(Method::Newton, &mut Room::of_bytes())?, [2, 0, 0, 0]);
+    /// let mut room = Room::of_bytes();
+    /// assert_eq!(job.solve(Method::Halving, &mut room)?, [2, 0, 0, 0]);
+    /// assert_eq!(job.solve(Method::Newton, &mut room)?, [2, 0, 0, 0]);
     /// # Ok::<(), pealvixen::Refusal>(())
     /// ```
     pub fn solve<'r>(&self, method: Method, room: &'r mut Room<C>) -> Result<&'r [C], Refusal> {
