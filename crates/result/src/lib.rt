@@ -31,7 +31,7 @@ pub enum Written {
 }
 
 // The bytes h from `at` on.
-fn put_bytes(d: &mut [u8], at: usize, h: &[u8]) -> usize
+pub fn put_bytes(d: &mut [u8], at: usize, h: &[u8]) -> usize
     requires { ⌜ at + length (now h) ≤ length (now d) ⌝ }
     ensures { λ r. ⌜ Put at (now (h .entry)) (now (d .entry)) (now (d .exit)) r ⌝ }
 {
@@ -44,7 +44,7 @@ fn put_bytes(d: &mut [u8], at: usize, h: &[u8]) -> usize
 }
 
 // A tab and the digits of x.
-fn put_field(d: &mut [u8], at: usize, x: u64) -> usize
+pub fn put_field(d: &mut [u8], at: usize, x: u64) -> usize
     requires { ⌜ at + 21 ≤ length (now d) ⌝ }
     ensures { λ r. ⌜ Put at (9 ∷ digits x) (now (d .entry)) (now (d .exit)) r ⌝ }
 {
