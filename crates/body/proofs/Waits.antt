@@ -11,7 +11,7 @@ use Rattle.job.specs.declared.Kind.the-variants.{System, Basis, Equation}
 use Rattle.job.specs.Job.{lengthsOf, readCount}
 use Rattle.text.specs.Lines.{Form, total}
 use Rattle.text.proofs.Lines.{total-append}
-use Rattle.lines.specs.declared.Cursor.{Cursor}
+use Rattle.cursor.specs.declared.Cursor.{Cursor}
 use Rattle.lines.specs.declared.Numbers.{Numbers}
 use Rattle.lines.specs.Forms.{rowForms, matrixForms}
 use Rattle.lines.specs.Steps.{formOf, Placed, Ready}

@@ -8,7 +8,7 @@ use lib.ListN.{length, getD}
 use Rattle.job.specs.declared.Kind.{Kind}
 use Rattle.job.specs.Job.{carried}
 use Rattle.text.specs.Lines.{Form}
-use Rattle.lines.specs.declared.Cursor.{Cursor}
+use Rattle.cursor.specs.declared.Cursor.{Cursor}
 use Rattle.lines.specs.declared.Numbers.{Numbers}
 use Rattle.lines.specs.Steps.{formOf, Placed}
 use Rattle.body.specs.declared.Lengths.{Lengths}

@@ -1,6 +1,6 @@
 // The lines of a job sheet behind line 1.
+use cursor::Cursor;
 use job::Kind;
-use lines::Cursor;
 use lines::Numbers;
 use lines::Step;
 ghost use Rattle.lines.specs.Steps.{Read};

@@ -12,7 +12,7 @@ use Rattle.text.specs.Decimal.{digits}
 use Rattle.text.specs.Lines.{Form, Within, items, lines, total, Ranged, Begins}
 use Rattle.text.proofs.Lines.{begins-same}
 use Rattle.lines.specs.Forms.{shaped}
-use Rattle.lines.specs.declared.Cursor.{Cursor}
+use Rattle.cursor.specs.declared.Cursor.{Cursor}
 use Rattle.lines.specs.Steps.{nth, Passed, Breaks}
 use Rattle.lines.proofs.Passes.{broken-one}
 use Rattle.header.specs.declared.Header.{Header}

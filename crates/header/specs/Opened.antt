@@ -7,7 +7,7 @@ use lib.IntN.{ℤ, pos}
 use lib.ListN.{drop}
 use Rattle.job.specs.declared.Kind.{Kind}
 use Rattle.text.specs.Lines.{Within, Begins}
-use Rattle.lines.specs.declared.Cursor.{Cursor}
+use Rattle.cursor.specs.declared.Cursor.{Cursor}
 use Rattle.lines.specs.Steps.{nth, Placed}
 use Rattle.header.specs.declared.Header.{Header}
 use Rattle.header.specs.declared.Opening.{Opening}

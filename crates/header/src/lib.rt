@@ -1,6 +1,6 @@
 // Line 1 of a sheet: what it says, and the place behind it.
+use cursor::Cursor;
 use job::Kind;
-use lines::Cursor;
 use lines::Numbers;
 use lines::Step;
 ghost use mathlib.Core.Path.{_≡_};

@@ -14,7 +14,7 @@ use Rattle.text.specs.Decimal.{spell}
 use Rattle.text.specs.Lines.{Form, Within, items, line}
 use Rattle.text.proofs.Lines.{items-stop, items-snoc, items-ext, items-front, line-cut}
 use Rattle.lines.specs.Forms.{shaped}
-use Rattle.lines.specs.declared.Cursor.{Cursor}
+use Rattle.cursor.specs.declared.Cursor.{Cursor}
 use Rattle.lines.specs.declared.Item.the-variants as item
 use Rattle.lines.specs.Steps.{nth, Placed, Itemed, Passed, Breaks}
 use Rattle.lines.proofs.Bytes.{byte-none, byte-first}

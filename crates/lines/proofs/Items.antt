@@ -14,7 +14,7 @@ use Rattle.text.specs.Field.{Stop, Numbered}
 use Rattle.text.specs.declared.Signed.the-variants as signed
 use Rattle.text.proofs.Spelling.{Plain, spell-plain}
 use Rattle.text.proofs.Lines.{cut-same}
-use Rattle.lines.specs.declared.Cursor.{Cursor}
+use Rattle.cursor.specs.declared.Cursor.{Cursor}
 use Rattle.lines.specs.declared.Item.the-variants as item
 use Rattle.lines.specs.Steps.{Placed, Field, Itemed}
 use Rattle.lines.proofs.Bytes.{stop-at}

@@ -9,7 +9,7 @@ use lib.ListN.{length, take, drop, length-append}
 use lib.Seq.{take-append-le, take-append-add}
 use Rattle.text.specs.Lines.{Form, Within, items, line, lines, total, Ranged, Begins}
 use Rattle.text.proofs.Lines.{Agree, begins-append, begins-rest, begins-ext, begins-as}
-use Rattle.lines.specs.declared.Cursor.{Cursor}
+use Rattle.cursor.specs.declared.Cursor.{Cursor}
 use Rattle.lines.specs.declared.Numbers.{Numbers}
 use Rattle.lines.specs.declared.Step.{Step}
 use Rattle.lines.specs.declared.Step.the-variants as step

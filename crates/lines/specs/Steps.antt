@@ -11,7 +11,7 @@ use Rattle.text.specs.Decimal.{spell}
 use Rattle.text.specs.Lines.{Form, Within, Begins}
 use Rattle.text.specs.Field.{Stop}
 use Rattle.lines.specs.Forms.{shaped}
-use Rattle.lines.specs.declared.Cursor.{Cursor}
+use Rattle.cursor.specs.declared.Cursor.{Cursor}
 use Rattle.lines.specs.declared.Numbers.{Numbers}
 use Rattle.lines.specs.declared.Head.{Head}
 use Rattle.lines.specs.declared.Head.the-variants as head

@@ -1,4 +1,5 @@
 // Lines, read one after the other by a cursor.
+use cursor::Cursor;
 use text::Signed;
 ghost use mathlib.Core.Path.{_≡_};
 ghost use mathlib.Core.List.{[], _∷_};
@@ -6,13 +7,6 @@ ghost use Prim.Native.Nat.{_+_, _*_, _≤_, _<_, _^_};
 ghost use lib.ListN.{length};
 ghost use Rattle.lines.specs.Forms.{numbered, rowForms, matrixForms};
 ghost use Rattle.lines.specs.Steps.{formOf, Placed, Field, Headed, Itemed, Ready, Read};
-
-// A place in the text: bytes passed, lines passed, and tabs passed in the line.
-pub struct Cursor {
-    pub byte: usize,
-    pub line: usize,
-    pub field: usize,
-}
 
 // What follows the head of a line: so many numbers, each from -low to high.
 pub struct Numbers {
@@ -72,14 +66,7 @@ fn read_item(s: &[u8], c: Cursor, low: u64, high: u64) -> Item
         return Item::Not;
     }
     match text::read_number(&s[from..e], low, high) {
-        Signed::Of(x) => Item::Is(
-            x,
-            Cursor {
-                byte: e,
-                line: c.line,
-                field: c.field + 1,
-            },
-        ),
+        Signed::Of(x) => Item::Is(x, cursor::behind_field(c, e)),
         Signed::Not => Item::Not,
     }
 }
@@ -142,11 +129,7 @@ fn read_numbers(s: &[u8], c: Cursor, n: Numbers, w: &mut [i64], from: usize) -> 
     if s[at] != 10 {
         return Step::Broken(line);
     }
-    Step::Next(Cursor {
-        byte: at + 1,
-        line,
-        field: 0,
-    })
+    Step::Next(cursor::behind_line(c, at + 1))
 }
 
 // A line with the head h.

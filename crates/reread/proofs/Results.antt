@@ -16,7 +16,7 @@ use Rattle.job.specs.Rules.{lengthRules}
 use Rattle.job.proofs.Says.{says-none, says-here, says-past, says-head, says-tail, refused-not-done}
 use Rattle.text.specs.Lines.{total}
 use Rattle.text.proofs.Lines.{total-append}
-use Rattle.lines.specs.declared.Cursor.{Cursor}
+use Rattle.cursor.specs.declared.Cursor.{Cursor}
 use Rattle.lines.specs.declared.Numbers.{Numbers}
 use Rattle.lines.specs.Forms.{matrixForms}
 use Rattle.lines.specs.Steps.{Placed, Ready}

@@ -1,9 +1,9 @@
 // Result sheets: the reader.
+use cursor::Cursor;
 use header::Header;
 use header::Opening;
 use job::Answer;
 use job::Kind;
-use lines::Cursor;
 use lines::Numbers;
 use lines::Step;
 use sheet::Body;

@@ -29,7 +29,7 @@ use Rattle.refusal.specs.Checked.{Judged}
 use Rattle.refusal.proofs.Judged.{judged-done}
 use Rattle.text.specs.Lines.{Form, Begins}
 use Rattle.text.proofs.Lines.{begins-as}
-use Rattle.lines.specs.declared.Cursor.{Cursor}
+use Rattle.cursor.specs.declared.Cursor.{Cursor}
 use Rattle.header.specs.declared.Header.{Header}
 use Rattle.header.specs.declared.Opening.{Opening}
 use Rattle.header.specs.declared.Opening.the-variants as opening

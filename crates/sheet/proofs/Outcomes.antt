@@ -16,7 +16,7 @@ use Rattle.job.specs.Rules.{limitRules, sizeRules}
 use Rattle.job.proofs.Says.{refused-not-done, says-tail, says-split, says-append-done, says-append-other}
 use Rattle.job.proofs.Accepted.{Limits, limits-of, small-of}
 use Rattle.text.specs.Lines.{Form}
-use Rattle.lines.specs.declared.Cursor.{Cursor}
+use Rattle.cursor.specs.declared.Cursor.{Cursor}
 use Rattle.lines.specs.Steps.{formOf}
 use Rattle.header.specs.declared.Header.{Header}
 use Rattle.body.specs.declared.Lengths.{Lengths}

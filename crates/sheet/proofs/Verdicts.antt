@@ -12,7 +12,7 @@ use Rattle.job.specs.Refusal.{done, refused, Says}
 use Rattle.job.proofs.Says.{says-none, says-here, says-past}
 use Rattle.text.specs.Lines.{Form, total, Begins}
 use Rattle.text.proofs.Lines.{begins-append, begins-split, begins-rest, begins-same, begins-as}
-use Rattle.lines.specs.declared.Cursor.{Cursor}
+use Rattle.cursor.specs.declared.Cursor.{Cursor}
 use Rattle.lines.specs.declared.Step.{Step}
 use Rattle.lines.specs.declared.Step.the-variants as step
 use Rattle.lines.specs.Steps.{nth, Passed, Breaks, Read}

@@ -10,7 +10,7 @@ use Rattle.job.specs.declared.Kind.{Kind}
 use Rattle.job.specs.declared.Answer.{Answer}
 use Rattle.job.specs.Refusal.{done, refused, Says, verdictOf}
 use Rattle.text.specs.Lines.{Form}
-use Rattle.lines.specs.declared.Cursor.{Cursor}
+use Rattle.cursor.specs.declared.Cursor.{Cursor}
 use Rattle.lines.specs.declared.Step.{Step}
 use Rattle.lines.specs.declared.Step.the-variants as step
 use Rattle.lines.specs.Steps.{nth, Placed, Read}

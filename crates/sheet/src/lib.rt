@@ -1,10 +1,10 @@
 // Job sheets: the reader.
 use body::Lengths;
+use cursor::Cursor;
 use header::Header;
 use header::Opening;
 use job::Answer;
 use job::Kind;
-use lines::Cursor;
 use lines::Numbers;
 use lines::Step;
 ghost use mathlib.Core.List.{[], _∷_};

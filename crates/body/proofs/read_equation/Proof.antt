@@ -79,7 +79,8 @@ read-line-requires : tie.Need-read-line-requires
 read-line-requires c κs =
     let m = c .before .before in
     let p = rows-passed m in
-    let s = m .before .before .before .before .before .before .before .before in
+    let earlier = m .before .before .before .before in
+    let s = earlier .before .before .before .before in
     let q = s .pre in
     series-ready q (s .args .l .one + s .args .series .count) (p .placed) (p .long) (omega (arith, equation-two q))
 
@@ -96,12 +97,14 @@ same-length-2 c = search needs
 right-read
     : (c : tie.After-read-line) →
     let m = c .before .before .before in
-    let a = m .before .before .before .before .before .before .before .before .args in
+    let earlier = m .before .before .before .before in
+    let a = earlier .before .before .before .before .args in
     Read (a .s .now) (a .c) (rowsRight (a .series) (a .r)) 0 (a .w .now)
     (c .read-line .last .1 .1 .1 .1 .0) (c .read-line .result)
 right-read c =
     let m = c .before .before .before in
-    let s = m .before .before .before .before .before .before .before .before in
+    let earlier = m .before .before .before .before in
+    let s = earlier .before .before .before .before in
     let new = c .read-line .last .1 .1 .1 .1 .0 in
     read-more (rows-passed m) (formOf (s .args .series) (98 ∷ []) ∷ []) new (s .args .l .one) (equation-right (s .pre))
     (c .read-line .result) (c .read-line .ensures)
@@ -110,7 +113,8 @@ returns-2 : tie.Need-returns-2
 unfolding jobLines
 returns-2 c =
     let b = c .before .before .before in
-    let s = b .before .before .before .before .before .before .before .before .before .before .before in
+    let earlier = b .before .before .before .before .before in
+    let s = earlier .before .before .before .before .before .before in
     let a = s .args in
     let new = b .read-line .last .1 .1 .1 .1 .0 in
     let last = formOf (a .values) startWord ∷ [] in
@@ -124,7 +128,8 @@ slice-aggregate-read-line-2 c = search needs
 right-passed
     : (c : tie.After-known-told2) →
     let b = c .before .before .before .before in
-    let a = b .before .before .before .before .before .before .before .before .before .before .before .args in
+    let earlier = b .before .before .before .before .before in
+    let a = earlier .before .before .before .before .before .before .args in
     Passed (a .s .now) (a .c) (rowsRight (a .series) (a .r)) 0 (a .w .now)
     (b .read-line .last .1 .1 .1 .1 .0) (c .before .right .given .0 .0)
 right-passed c = rw (c .before .right .given .1) at (right-read (c .before .before .before .before))
@@ -132,14 +137,16 @@ right-passed c = rw (c .before .right .given .1) at (right-read (c .before .befo
 add-read-line : tie.Need-add-read-line
 add-read-line c =
     let b = c .before .before .before .before .before .before .before in
-    let s = b .before .before .before .before .before .before .before .before .before .before .before in
+    let earlier = b .before .before .before .before .before in
+    let s = earlier .before .before .before .before .before .before in
     omega (arith, fits (s .pre) .all)
 
 read-line-requires-2 : tie.Need-read-line-requires-2
 read-line-requires-2 c κs =
     let p = right-passed (c .before .before .before) in
     let b = c .before .before .before .before .before .before .before in
-    let s = b .before .before .before .before .before .before .before .before .before .before .before in
+    let earlier = b .before .before .before .before .before in
+    let s = earlier .before .before .before .before .before .before in
     let q = s .pre in
     let places = s .args .l .one + s .args .l .two + s .args .values .count in
     values-ready q places (p .placed) (p .long) (omega (arith, equation-three q))
@@ -152,8 +159,10 @@ unfolding jobLines
 returns-3 c =
     let v = c .before in
     let p = right-passed (v .before .before .before .before) in
-    let b = v .before .before .before .before .before .before .before .before in
-    let s = b .before .before .before .before .before .before .before .before .before .before .before in
+    let between = v .before .before .before .before in
+    let b = between .before .before .before .before in
+    let earlier = b .before .before .before .before .before in
+    let s = earlier .before .before .before .before .before .before in
     let new = v .read-line2 .last .1 .1 .1 .1 .0 in
     let last = formOf (s .args .values) startWord ∷ [] in
     read-more p last new (s .args .l .one + s .args .l .two) (equation-last (s .pre)) (v .read-line2 .result)

@@ -105,7 +105,8 @@ returns-2 : tie.Need-returns-2
 unfolding jobLines
 returns-2 c =
     let b = c .before .before .before in
-    let a = b .before .before .before .before .before .before .before .before .before .before .args in
+    let earlier = b .before .before .before .before .before in
+    let a = earlier .before .before .before .before .before .args in
     let new = b .read-rows .last .1 .1 .1 .1 .1 .1 .0 in
     let last = formOf (a .values) (118 ∷ []) ∷ [] in
     read-stop (a .s .now) (a .c) (entriesRows (a .series) (a .r)) last 0 (a .w .now) new _ _ (c .enum-told2 .given .1)
@@ -118,7 +119,8 @@ slice-aggregate-read-line c = search needs
 rows-passed
     : (c : tie.After-known-told2) →
     let b = c .before .before .before .before in
-    let a = b .before .before .before .before .before .before .before .before .before .before .args in
+    let earlier = b .before .before .before .before .before in
+    let a = earlier .before .before .before .before .before .args in
     Passed (a .s .now) (a .c) (entriesRows (a .series) (a .r)) 0 (a .w .now)
     (b .read-rows .last .1 .1 .1 .1 .1 .1 .0) (c .before .rows .given .0 .0)
 rows-passed c = rw (c .before .rows .given .1) at (rows-read (c .before .before .before .before))
@@ -126,14 +128,16 @@ rows-passed c = rw (c .before .rows .given .1) at (rows-read (c .before .before 
 add-read-line : tie.Need-add-read-line
 add-read-line c =
     let b = c .before .before .before .before .before .before .before in
-    let s = b .before .before .before .before .before .before .before .before .before .before in
+    let earlier = b .before .before .before .before .before in
+    let s = earlier .before .before .before .before .before in
     omega (arith, fits (s .pre) .all)
 
 read-line-requires : tie.Need-read-line-requires
 read-line-requires c κs =
     let p = rows-passed (c .before .before .before) in
     let b = c .before .before .before .before .before .before .before in
-    let s = b .before .before .before .before .before .before .before .before .before .before in
+    let earlier = b .before .before .before .before .before in
+    let s = earlier .before .before .before .before .before in
     let q = s .pre in
     let places = s .args .l .one + s .args .l .two + s .args .values .count in
     values-ready q places (p .placed) (p .long) (omega (arith, system-three q))
@@ -146,8 +150,10 @@ unfolding jobLines
 returns-3 c =
     let v = c .before in
     let p = rows-passed (v .before .before .before .before) in
-    let b = v .before .before .before .before .before .before .before .before in
-    let s = b .before .before .before .before .before .before .before .before .before .before in
+    let between = v .before .before .before .before in
+    let b = between .before .before .before .before in
+    let earlier = b .before .before .before .before .before in
+    let s = earlier .before .before .before .before .before in
     let new = v .read-line .last .1 .1 .1 .1 .0 in
     let last = formOf (s .args .values) (118 ∷ []) ∷ [] in
     read-more p last new (s .args .l .one + s .args .l .two) (system-last (s .pre)) (v .read-line .result)

@@ -55,8 +55,12 @@ read-number-requires c κs = search needs
 enum-known-x : tie.Need-enum-known-x
 enum-known-x c = search needs
 
-add-t18 : tie.Need-add-t18
-add-t18 c = search needs
+behind-field-requires : tie.Need-behind-field-requires
+behind-field-requires c κs =
+    let n = c .before .before .before in
+    let f = n .before .before .before in
+    let s = f .before .before .before .before .before in
+    omega (arith, s .pre .0 .field, f .before .before .before .if1 .left)
 
 enum-told : tie.Need-enum-told
 enum-told c = search needs
@@ -88,7 +92,7 @@ returns-4 c =
     let a = s .args in
     let x = c .before .before .x .given .0 .0 in
     let z = said n _ (c .before .before .x .given .1) in
-    rw (passes (a .low) (a .high) x (s .pre .1) (s .pre .2) (z .1))
+    rw (passes (a .low) (a .high) x (s .pre .1) (s .pre .2) (z .1), c .behind-field .ensures)
     (item-is (a .s .now) (a .c) (f .end-field .result) (f .before .before .before .if1 .left) (f .before .if2 .left)
     (f .end-field .ensures) (ended n) (a .low) (a .high) (s .pre .0) x z)
 
@@ -115,7 +119,7 @@ read-item-spec =
     part-read-number-end
     read-number-requires
     enum-known-x
-    add-t18
+    behind-field-requires
     enum-told
     returns-4
     returns-5)

@@ -14,10 +14,10 @@ use Rattle.lines.proofs.read_numbers.Statement.{statement}
 use Rattle.lines.proofs.read_numbers.Tie as tie
 
 abbrev Inv-loop : tie.InvT-loop
-Inv-loop s w₀ from count low high line d₀ j₀ w d j = Going s d₀ d (shaped count low high []) from j w₀ w
+Inv-loop s c w₀ from count low high line d₀ j₀ w d j = Going s c d (shaped count low high []) from j w₀ w
 
 abbrev μ-loop : tie.MeasureT-loop
-μ-loop s w₀ from count low high line d₀ j₀ w d j = count - j
+μ-loop s c w₀ from count low high line d₀ j₀ w d j = count - j
 
 add-line : tie.Need-add-line Inv-loop μ-loop
 add-line c =
@@ -103,18 +103,24 @@ returns-3 c =
     let t = c .before .before in
     going-other (t .before .before .loop .inv) (t .before .loop-test .left) (t .if1 .left) (c .if2 .taken)
 
-add-t20 : tie.Need-add-t20 Inv-loop μ-loop
-add-t20 c = search needs
+add-behind-line : tie.Need-add-behind-line Inv-loop μ-loop
+add-behind-line c = search needs
+
+behind-line-requires : tie.Need-behind-line-requires Inv-loop μ-loop
+behind-line-requires c κs =
+    let p = c .before .before .before .before .before .before .before .pre .placed in
+    omega (arith, p .line, p .byte)
 
 same-length-4 : tie.Need-same-length-4 Inv-loop μ-loop
-same-length-4 c = c .before .before .before .before .loop .inv .long
+same-length-4 c = c .before .before .before .before .before .loop .inv .long
 
 returns-4 : tie.Need-returns-4 Inv-loop μ-loop
 returns-4 c =
-    let t = c .before .before in
+    let t = c .before .before .before in
     let s = t .before .before .before .before .before in
-    going-done (t .before .before .loop .inv) (t .before .loop-test .left) (t .if1 .left) (c .if2 .left)
-    (s .pre .placed .line)
+    rw (c .behind-line .ensures)
+    (going-done (t .before .before .loop .inv) (t .before .loop-test .left) (t .if1 .left) (c .before .if2 .left)
+    (s .pre .placed .line))
 
 pub read-numbers-spec : {M : Type 1} → statement M
 read-numbers-spec =
@@ -140,6 +146,7 @@ read-numbers-spec =
     shared-slice-read-if2
     same-length-3
     returns-3
-    add-t20
+    add-behind-line
+    behind-line-requires
     same-length-4
     returns-4)

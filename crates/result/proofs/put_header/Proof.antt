@@ -38,7 +38,8 @@ behind-n : (c : tie.After-slice-known4) → let u = c .before .before .put-field
 behind-n c =
     let field = c .before .before in
     let first = field .before .before in
-    let start = first .before .before .before .before .before .before .before .before .before in
+    let earlier = first .before .before .before .before in
+    let start = earlier .before .before .before .before .before in
     let put = field .put-field2 .ensures in
     omega (arith, behind-r first, put .end, put .long, digits-room (start .args .n) (start .fits .n .fits))
 
@@ -50,7 +51,8 @@ put-byte-requires c κs =
     let field = c .before .before .before in
     let second = field .before .before in
     let first = second .before .before .before .before in
-    let start = first .before .before .before .before .before .before .before .before .before in
+    let earlier = first .before .before .before .before in
+    let start = earlier .before .before .before .before .before in
     let put = field .put-field3 .ensures in
     omega (arith, behind-n second, put .end, put .long, digits-room (start .args .p) (start .fits .p .fits))
 

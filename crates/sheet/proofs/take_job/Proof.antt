@@ -38,7 +38,8 @@ slice-aggregate-fill-rooms c = search needs
 
 fill-rooms-requires : tie.Need-fill-rooms-requires
 fill-rooms-requires c κs =
-    let body = c .before .before .before .before .before .before .before .before in
+    let earlier = c .before .before .before .before in
+    let body = earlier .before .before .before .before in
     let s = body .before .before .before .before .before .before .before in
     let measured = body .before .before .measure .ensures in
     entered-fillable (s .pre .0) measured (body .read-body .kept .1 .1 .1 .1 .0) (s .pre .1)
