@@ -77,7 +77,7 @@ pub fn check_small(r: u64, n: u64, p: u64) -> Answer
 }
 
 // The words of each buffer, by number.
-fn lengths_of(kind: Kind, r: usize, n: usize) -> [usize; 5]
+pub fn lengths_of(kind: Kind, r: usize, n: usize) -> [usize; 5]
     requires { ⌜ (r ≤ 8) × (n ≤ 4096) ⌝ }
     ensures { λ l. ⌜ Measured kind r n l ⌝ }
 {
@@ -135,7 +135,7 @@ fn word_of(a: u8, b: u8, c: u8, d: u8) -> u32
 }
 
 // The word at k of a buffer of bytes.
-fn word_at(s: &[u8], k: usize) -> u32
+pub fn word_at(s: &[u8], k: usize) -> u32
     requires { ⌜ 4 * k + 4 ≤ length (now s) ⌝ }
     ensures { λ w. ⌜ w ≡ wordAt bytes (now (s .entry)) k ⌝ }
 {
