@@ -95,7 +95,7 @@ impl<C: Cell> System<'_, C> {
     ///
     /// On bytes:
     ///
-    /// ```no_run
+    /// ```
     /// use pealvixen::{Method, Room, System};
     ///
     /// // y' = y, y(0) = 1 modulo 257, two terms, four bytes to a word.
@@ -164,7 +164,7 @@ impl<C: Cell> Basis<'_, C> {
     ///
     /// On bytes:
     ///
-    /// ```no_run
+    /// ```
     /// use pealvixen::{Basis, Room};
     ///
     /// let job = Basis { r: 1, n: 1, p: 257, a: &[0; 4], y0: &[2, 0, 0, 0] };
@@ -222,7 +222,7 @@ impl<C: Cell> Equation<'_, C> {
     ///
     /// By Newton:
     ///
-    /// ```no_run
+    /// ```
     /// use pealvixen::{Equation, Method, Room};
     ///
     /// // y' = 3, y(0) = 2 modulo 7.
@@ -233,7 +233,7 @@ impl<C: Cell> Equation<'_, C> {
     ///
     /// On bytes:
     ///
-    /// ```no_run
+    /// ```
     /// use pealvixen::{Equation, Method, Room};
     ///
     /// // y' = 0, y(0) = 2 modulo 7, one term.
