@@ -12,9 +12,8 @@ use Rattle.algebra.specs.Meaning.{SystemSeries}
 use Rattle.algebra.proofs.Meaning.{system-cong}
 use Rattle.residue.specs.declared.Modulus.{Modulus}
 use Rattle.room.specs.Room.{wordsFrom, Inside, Put, Zeros}
-use Rattle.matrix.specs.Layout.{Written}
+use Rattle.matrix.specs.Layout.{Below, Written}
 use Rattle.matrix.specs.Product.{firstTerms}
-use Rattle.matrix.proofs.Written.{written-below}
 use Rattle.newton.specs.Basis.{spreadTerm}
 use Rattle.halving.specs.Layout.{rightSide, movedSide, unknown, roomMatrix}
 use Rattle.halving.specs.Halving.{Solvable, RowsSolved}
@@ -72,75 +71,74 @@ module _ {q : Modulus} {r n : ℕ} {a b start work : List ℕ} (given : Ready q 
   pub answer-inside : {z y : List ℕ} → length z ≡ length work → length y ≡ n → Inside z (r * n) n × Inside y 0 n
   answer-inside len long = (record { within = omega (arith, used, some-row) }, record { within = omega arith })
 
-  module _ {w : List ℕ} (len : length w ≡ length work) (zeros : Zeros w) where
-    module _ {w₁ : List ℕ} (len₁ : length w₁ ≡ length w) (system : Translated (q .p) r n a b at side back w w₁) where
-      module _ {w₂ : List ℕ} (len₂ : length w₂ ≡ length w₁)
-          (starts : Written r n (firstTerms 0 1) (spreadTerm start 0) w₁ w₂) where
-        pub ready-solvable : Solvable q r n w₂
-        ready-solvable = record {
-          sized = record {
-            modulus = given .modulus;
-            order-least = given .order-least;
-            order = given .order;
-            terms-least = given .terms-least;
-            terms = given .terms;
-            below = written-below starts (λ e k. given .below-three (0 + e)) (system .below);
-          };
-          prime = given .prime;
-          few = given .few;
-          room = omega (arith, len₂, len₁, len, used);
-        }
+  -- residues in a room of that length
+  pub ready-solvable : {w : List ℕ} → length w ≡ length work → Below (q .p) w → Solvable q r n w
+  ready-solvable len below = record {
+    sized = record {
+      modulus = given .modulus;
+      order-least = given .order-least;
+      order = given .order;
+      terms-least = given .terms-least;
+      terms = given .terms;
+      below = below;
+    };
+    prime = given .prime;
+    few = given .few;
+    room = omega (arith, len, used);
+  }
 
-        -- the starts stand in the rows' first words, and no other word has changed
-        inner-kept : (i k : ℕ) → suc k < n → getD w₂ (i * n + suc k) 0 ≡ getD w₁ (i * n + suc k) 0
-        inner-kept i k hk = starts .old (i * n + suc k) (λ o d l _ u e.
-            let same = place-unique {i = i} {u = o} {k = suc k} {l = 0} n hk (given .terms-least) (omega arith) in
-            omega (arith, same))
+  -- the room cleared, with the system, with the start, and solved
+  module _ {w w₁ w₂ z : List ℕ} (zeros : Zeros w) (system : Translated (q .p) r n a b at side back w w₁)
+      (starts : Written r n (firstTerms 0 1) (spreadTerm start 0) w₁ w₂) (solved : RowsSolved (q .p) r n w₂ z) where
+    -- the starts stand in the rows' first words, and no other word has changed
+    inner-kept : (i k : ℕ) → suc k < n → getD w₂ (i * n + suc k) 0 ≡ getD w₁ (i * n + suc k) 0
+    inner-kept i k hk = starts .old (i * n + suc k) (λ o d l _ u e.
+        let same = place-unique {i = i} {u = o} {k = suc k} {l = 0} n hk (given .terms-least) (omega arith) in
+        omega (arith, same))
 
-        behind-kept : (x : ℕ) → r * n ≤ x → getD w₂ x 0 ≡ getD w₁ x 0
-        behind-kept x h =
-            starts .old x (λ o d l _ u e. omega (arith, row-end {i = o} {r = r} n l, given .terms-least))
+    behind-kept : (x : ℕ) → r * n ≤ x → getD w₂ x 0 ≡ getD w₁ x 0
+    behind-kept x h =
+        starts .old x (λ o d l _ u e. omega (arith, row-end {i = o} {r = r} n l, given .terms-least))
 
-        start-term : (i : ℕ) → i < r → rightSide w₂ n 0 i ≡ getD start i 0
-        start-term i l =
-            let place : 0 + i * n + 0 ≡ i * n + 0 = omega arith in
-            rw (place, zero-add i) at (starts .new i 0 l (omega arith) (omega arith))
+    start-term : (i : ℕ) → i < r → rightSide w₂ n 0 i ≡ getD start i 0
+    start-term i l =
+        let place : 0 + i * n + 0 ≡ i * n + 0 = omega arith in
+        rw (place, zero-add i) at (starts .new i 0 l (omega arith) (omega arith))
 
-        side-term : (k i : ℕ) → suc k < n → i < r → movedSide w₂ n k i ≡ sideFrom w₁ side r k i
-        side-term k i hk hi =
-            elim (ℕ-discrete (suc i) r) [
-              | yes e ↦
-                  let last : r - 1 ≡ i = omega arith in
-                  let place : i * n + suc k ≡ side + k = rw last (omega arith) in
-                  inner-kept i k hk ∙ ap (λ x. getD w₁ x 0) place ∙ sym (side-last w₁ side k e)
-              | no e ↦
-                  let before : i * n + n ≤ (r - 1) * n = row-end {i = i} {r = r - 1} n (omega arith) in
-                  inner-kept i k hk
-                  ∙ system .kept (i * n + suc k) (inl (omega (arith, last-end, some-row))) (inl (omega arith))
-                  (inl (omega (arith, last-end, some-row)))
-                  ∙ zeros .zeros (i * n + suc k)
-                  ∙ sym (side-other w₁ side k (omega arith))
-            ]
+    side-term : (k i : ℕ) → suc k < n → i < r → movedSide w₂ n k i ≡ sideFrom w₁ side r k i
+    side-term k i hk hi =
+        elim (ℕ-discrete (suc i) r) [
+          | yes e ↦
+              let last : r - 1 ≡ i = omega arith in
+              let place : i * n + suc k ≡ side + k = rw last (omega arith) in
+              inner-kept i k hk ∙ ap (λ x. getD w₁ x 0) place ∙ sym (side-last w₁ side k e)
+          | no e ↦
+              let before : i * n + n ≤ (r - 1) * n = row-end {i = i} {r = r - 1} n (omega arith) in
+              inner-kept i k hk
+              ∙ system .kept (i * n + suc k) (inl (omega (arith, last-end, some-row))) (inl (omega arith))
+              (inl (omega (arith, last-end, some-row)))
+              ∙ zeros .zeros (i * n + suc k)
+              ∙ sym (side-other w₁ side k (omega arith))
+        ]
 
-        matrix-term : (k i j : ℕ) → roomMatrix w₂ r n k i j ≡ matrixFrom w₁ at r n k i j
-        matrix-term k i j = behind-kept (at + ((i * r + j) * n + k)) (omega (arith, some-row))
+    matrix-term : (k i j : ℕ) → roomMatrix w₂ r n k i j ≡ matrixFrom w₁ at r n k i j
+    matrix-term k i j = behind-kept (at + ((i * r + j) * n + k)) (omega (arith, some-row))
 
-        module _ {z : List ℕ} (solved : RowsSolved (q .p) r n w₂ z) where
-          -- the unknowns solve the equation's system
-          companion-series
-              : SystemSeries (q .p) r n (matrixFrom w₁ at r n) (sideFrom w₁ side r) (λ i. getD start i 0)
-              (unknown z r n)
-          companion-series =
-              system-cong (given .terms-least)
-              (λ k i j s l m. ap (λ x. x % q .p) (matrix-term k i j))
-              (λ k i s l. ap (λ x. x % q .p) (side-term k i s l))
-              (λ i l. ap (λ x. x % q .p) (start-term i l))
-              (λ k i s l. refl) (solved .series)
+    -- the unknowns solve the equation's system
+    companion-series
+        : SystemSeries (q .p) r n (matrixFrom w₁ at r n) (sideFrom w₁ side r) (λ i. getD start i 0)
+        (unknown z r n)
+    companion-series =
+        system-cong (given .terms-least)
+        (λ k i j s l m. ap (λ x. x % q .p) (matrix-term k i j))
+        (λ k i s l. ap (λ x. x % q .p) (side-term k i s l))
+        (λ i l. ap (λ x. x % q .p) (start-term i l))
+        (λ k i s l. refl) (solved .series)
 
-          pub ran : {y y′ room : List ℕ} → Put 0 n (wordsFrom z (r * n)) y y′ → Zeros room
-              → Ran (q .p) r n a b start y′ room
-          ran {y′ = y′} put cleared =
-              ready-ran given (system .companion) companion-series word (λ k l. solved .below ((r + 0) * n + k)) cleared
-            where
-              word : (k : ℕ) → k < n → getD y′ k 0 ≡ unknown z r n k 0
-              word k l = rw zero-add at (put .new k l) ∙ ap (λ i. getD z (i * n + k) 0) (sym (add-zero r))
+    pub ran : {y y′ room : List ℕ} → Put 0 n (wordsFrom z (r * n)) y y′ → Zeros room
+        → Ran (q .p) r n a b start y′ room
+    ran {y′ = y′} put cleared =
+        ready-ran given (system .companion) companion-series word (λ k l. solved .below ((r + 0) * n + k)) cleared
+      where
+        word : (k : ℕ) → k < n → getD y′ k 0 ≡ unknown z r n k 0
+        word k l = rw zero-add at (put .new k l) ∙ ap (λ i. getD z (i * n + k) 0) (sym (add-zero r))

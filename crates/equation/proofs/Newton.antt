@@ -85,121 +85,118 @@ module _ {q : Modulus} {r n : ℕ} {a b start work : List ℕ} (given : Ready q 
         side-scratch = record { apart = inr (omega arith) };
       }
 
-  module _ {w : List ℕ} (len : length w ≡ length work) (zeros : Zeros w) where
-    module _ {w₁ : List ℕ} (len₁ : length w₁ ≡ length w) (system : Translated (q .p) r n a b 0 side (3 * m) w w₁) where
-      -- words that the translation leaves 0
-      still-zero : (x : ℕ) → (m ≤ x) → x < 3 * m → getD w₁ x 0 ≡ 0
-      still-zero x l h = system .kept x (inr (omega arith)) (inl (omega arith)) (inl h) ∙ zeros .zeros x
+  -- the room cleared, with the system, with each identity, and with the start
+  module _ {w w₁ w₂ w₃ w₄ : List ℕ} (zeros : Zeros w) (system : Translated (q .p) r n a b 0 side (3 * m) w w₁)
+      (first : Written r step (firstTerms m 1) (spreadTerm units 0) w₁ w₂)
+      (second : Written r step (firstTerms (2 * m) 1) (spreadTerm units 0) w₂ w₃)
+      (starts : Written r n (firstTerms (9 * m) 1) (spreadTerm start 0) w₃ w₄) where
+    -- words that the translation leaves 0
+    still-zero : (x : ℕ) → (m ≤ x) → x < 3 * m → getD w₁ x 0 ≡ 0
+    still-zero x l h = system .kept x (inr (omega arith)) (inl (omega arith)) (inl h) ∙ zeros .zeros x
 
-      module _ {w₂ : List ℕ} (len₂ : length w₂ ≡ length w₁)
-          (first : Written r step (firstTerms m 1) (spreadTerm units 0) w₁ w₂) where
-        beside-first : (x : ℕ) → x < m → getD w₂ x 0 ≡ getD w₁ x 0
-        beside-first x l = first .old x (λ e k h _ u eq. absurd (omega arith))
+    beside-first : (x : ℕ) → x < m → getD w₂ x 0 ≡ getD w₁ x 0
+    beside-first x l = first .old x (λ e k h _ u eq. absurd (omega arith))
 
-        behind-first : (x : ℕ) → 2 * m ≤ x → getD w₂ x 0 ≡ getD w₁ x 0
-        behind-first x l = first .old x (λ e k h _ u eq.
-            let inside = diagonal-inside n h in
-            let some = given .terms-least in
-            absurd (omega arith))
+    behind-first : (x : ℕ) → 2 * m ≤ x → getD w₂ x 0 ≡ getD w₁ x 0
+    behind-first x l = first .old x (λ e k h _ u eq.
+        let inside = diagonal-inside n h in
+        let some = given .terms-least in
+        absurd (omega arith))
 
-        module _ {w₃ : List ℕ} (len₃ : length w₃ ≡ length w₂)
-            (second : Written r step (firstTerms (2 * m) 1) (spreadTerm units 0) w₂ w₃) where
-          beside-second : (x : ℕ) → x < 2 * m → getD w₃ x 0 ≡ getD w₂ x 0
-          beside-second x l = second .old x (λ e k h _ u eq. absurd (omega arith))
+    beside-second : (x : ℕ) → x < 2 * m → getD w₃ x 0 ≡ getD w₂ x 0
+    beside-second x l = second .old x (λ e k h _ u eq. absurd (omega arith))
 
-          behind-second : (x : ℕ) → 3 * m ≤ x → getD w₃ x 0 ≡ getD w₂ x 0
-          behind-second x l = second .old x (λ e k h _ u eq.
-              let inside = diagonal-inside n h in
-              let some = given .terms-least in
-              absurd (omega arith))
+    behind-second : (x : ℕ) → 3 * m ≤ x → getD w₃ x 0 ≡ getD w₂ x 0
+    behind-second x l = second .old x (λ e k h _ u eq.
+        let inside = diagonal-inside n h in
+        let some = given .terms-least in
+        absurd (omega arith))
 
-          module _ {w₄ : List ℕ} (len₄ : length w₄ ≡ length w₃)
-              (starts : Written r n (firstTerms (9 * m) 1) (spreadTerm start 0) w₃ w₄) where
-            before-starts : (x : ℕ) → x < 9 * m → getD w₄ x 0 ≡ getD w₃ x 0
-            before-starts x l = starts .old x (λ e k h _ u eq. absurd (omega arith))
+    before-starts : (x : ℕ) → x < 9 * m → getD w₄ x 0 ≡ getD w₃ x 0
+    before-starts x l = starts .old x (λ e k h _ u eq. absurd (omega arith))
 
-            entry-inside : (k i j : ℕ) → k < n → i < r → j < r → (i * r + j) * n + k < m
-            entry-inside k i j l x y = omega (arith, stride n (entry-below {r = r} {c = r} x y))
+    entry-inside : (k i j : ℕ) → k < n → i < r → j < r → (i * r + j) * n + k < m
+    entry-inside k i j l x y = omega (arith, stride n (entry-below {r = r} {c = r} x y))
 
-            ones : (e : ℕ) → e < r → getD units e 0 ≡ 1
-            ones e l = units-at e (omega (arith, given .order))
+    ones : (e : ℕ) → e < r → getD units e 0 ≡ 1
+    ones e l = units-at e (omega (arith, given .order))
 
-            solution-one : StartsWithOne r n m w₄
-            solution-one i j x y =
-                let inside = entry-inside 0 i j (given .terms-least) x y in
-                before-starts (m + (i * r + j) * n + 0) (omega arith)
-                ∙ beside-second (m + (i * r + j) * n + 0) (omega arith)
-                ∙ diagonal-ones m units (given .terms-least) ones
-                (λ u v s t. still-zero (m + (u * r + v) * n + 0) (omega arith)
-                (omega (arith, entry-inside 0 u v (given .terms-least) s t))) first i j x y
+    solution-one : StartsWithOne r n m w₄
+    solution-one i j x y =
+        let inside = entry-inside 0 i j (given .terms-least) x y in
+        before-starts (m + (i * r + j) * n + 0) (omega arith)
+        ∙ beside-second (m + (i * r + j) * n + 0) (omega arith)
+        ∙ diagonal-ones m units (given .terms-least) ones
+        (λ u v s t. still-zero (m + (u * r + v) * n + 0) (omega arith)
+        (omega (arith, entry-inside 0 u v (given .terms-least) s t))) first i j x y
 
-            inverse-one : (i j : ℕ) → i < r → j < r → inverseOf r n m w₄ 0 i j ≡ identityAt 0 i j
-            inverse-one i j x y =
-                let inside = entry-inside 0 i j (given .terms-least) x y in
-                before-starts (2 * m + (i * r + j) * n + 0) (omega arith)
-                ∙ diagonal-ones (2 * m) units (given .terms-least) ones
-                (λ u v s t. behind-first (2 * m + (u * r + v) * n + 0) (omega arith)
-                ∙ still-zero (2 * m + (u * r + v) * n + 0) (omega arith)
-                (omega (arith, entry-inside 0 u v (given .terms-least) s t))) second i j x y
+    inverse-one : (i j : ℕ) → i < r → j < r → inverseOf r n m w₄ 0 i j ≡ identityAt 0 i j
+    inverse-one i j x y =
+        let inside = entry-inside 0 i j (given .terms-least) x y in
+        before-starts (2 * m + (i * r + j) * n + 0) (omega arith)
+        ∙ diagonal-ones (2 * m) units (given .terms-least) ones
+        (λ u v s t. behind-first (2 * m + (u * r + v) * n + 0) (omega arith)
+        ∙ still-zero (2 * m + (u * r + v) * n + 0) (omega arith)
+        (omega (arith, entry-inside 0 u v (given .terms-least) s t))) second i j x y
 
-            matrix-same : (k i j : ℕ) → k < n → i < r → j < r
-                → matrixOf r n m w₄ k i j ≡ matrixFrom w₁ 0 r n k i j
-            matrix-same k i j l x y =
-                let inside = entry-inside k i j l x y in
-                before-starts (0 + (i * r + j) * n + k) (omega arith)
-                ∙ beside-second (0 + (i * r + j) * n + k) (omega arith)
-                ∙ beside-first (0 + (i * r + j) * n + k) (omega arith)
-                ∙ ap (λ x. getD w₁ x 0) (omega arith)
+    matrix-same : (k i j : ℕ) → k < n → i < r → j < r
+        → matrixOf r n m w₄ k i j ≡ matrixFrom w₁ 0 r n k i j
+    matrix-same k i j l x y =
+        let inside = entry-inside k i j l x y in
+        before-starts (0 + (i * r + j) * n + k) (omega arith)
+        ∙ beside-second (0 + (i * r + j) * n + k) (omega arith)
+        ∙ beside-first (0 + (i * r + j) * n + k) (omega arith)
+        ∙ ap (λ x. getD w₁ x 0) (omega arith)
 
-            side-same : (k i : ℕ) → k < n → i < r → sideOf r n m w₄ k i ≡ sideFrom w₁ side r k i
-            side-same k i l x =
-                let row = row-inside x in
-                ap (λ x. getD w₄ x 0) (vector-place (8 * m) n i k)
-                ∙ before-starts (8 * m + i * n + k) (omega arith)
-                ∙ behind-second (8 * m + i * n + k) (omega arith)
-                ∙ behind-first (8 * m + i * n + k) (omega arith)
-                ∙ elim (ℕ-discrete (suc i) r) [
-                  | yes e ↦
-                      let last : r - 1 ≡ i = omega arith in
-                      let place : 8 * m + i * n + k ≡ side + k = rw last refl in
-                      ap (λ x. getD w₁ x 0) place ∙ sym (side-last w₁ side k e)
-                  | no e ↦
-                      let upper : i < r - 1 = omega arith in
-                      let before = stride n upper in
-                      system .kept (8 * m + i * n + k) (inr (omega arith)) (inl (omega arith)) (inr (omega arith))
-                      ∙ zeros .zeros (8 * m + i * n + k)
-                      ∙ sym (side-other w₁ side k (omega arith))
-                ]
+    side-same : (k i : ℕ) → k < n → i < r → sideOf r n m w₄ k i ≡ sideFrom w₁ side r k i
+    side-same k i l x =
+        let row = row-inside x in
+        ap (λ x. getD w₄ x 0) (vector-place (8 * m) n i k)
+        ∙ before-starts (8 * m + i * n + k) (omega arith)
+        ∙ behind-second (8 * m + i * n + k) (omega arith)
+        ∙ behind-first (8 * m + i * n + k) (omega arith)
+        ∙ elim (ℕ-discrete (suc i) r) [
+          | yes e ↦
+              let last : r - 1 ≡ i = omega arith in
+              let place : 8 * m + i * n + k ≡ side + k = rw last refl in
+              ap (λ x. getD w₁ x 0) place ∙ sym (side-last w₁ side k e)
+          | no e ↦
+              let upper : i < r - 1 = omega arith in
+              let before = stride n upper in
+              system .kept (8 * m + i * n + k) (inr (omega arith)) (inl (omega arith)) (inr (omega arith))
+              ∙ zeros .zeros (8 * m + i * n + k)
+              ∙ sym (side-other w₁ side k (omega arith))
+        ]
 
-            start-same : (i : ℕ) → i < r → valueOf r n m w₄ 0 i ≡ getD start i 0
-            start-same i l =
-                ap (λ x. getD w₄ x 0) (vector-place (9 * m) n i 0)
-                ∙ starts .new i 0 l (omega arith) (omega arith)
-                ∙ ap (λ x. getD start x 0) (zero-add i)
+    start-same : (i : ℕ) → i < r → valueOf r n m w₄ 0 i ≡ getD start i 0
+    start-same i l =
+        ap (λ x. getD w₄ x 0) (vector-place (9 * m) n i 0)
+        ∙ starts .new i 0 l (omega arith) (omega arith)
+        ∙ ap (λ x. getD start x 0) (zero-add i)
 
-            pub placed : Placed q r n a b start w₄
-            placed = record {
-              started = record {
-                modulus = given .modulus;
-                prime = given .prime;
-                order-least = given .order-least;
-                order = given .order;
-                terms-least = given .terms-least;
-                terms = given .terms;
-                few = given .few;
-                room = omega (arith, given .room, len, len₁, len₂, len₃, len₄);
-                below =
-                    written-below starts (λ e k. given .below-three (0 + e))
-                    (written-below second (λ e k. units-small (q .p) (0 + e) (given .prime .two))
-                    (written-below first (λ e k. units-small (q .p) (0 + e) (given .prime .two)) (system .below)));
-                inverse =
-                    left-moved (solutionOf r n m w₄ 0) (inverseOf r n m w₄ 0) solution-one inverse-one
-                    (one-one (q .p) r (given .modulus .some));
-              };
-              identity = solution-one;
-              companion = companion-same matrix-same side-same (system .companion);
-              starts = start-same;
-            }
+    pub placed : length w₄ ≡ length work → Placed q r n a b start w₄
+    placed len = record {
+      started = record {
+        modulus = given .modulus;
+        prime = given .prime;
+        order-least = given .order-least;
+        order = given .order;
+        terms-least = given .terms-least;
+        terms = given .terms;
+        few = given .few;
+        room = omega (arith, given .room, len);
+        below =
+            written-below starts (λ e k. given .below-three (0 + e))
+            (written-below second (λ e k. units-small (q .p) (0 + e) (given .prime .two))
+            (written-below first (λ e k. units-small (q .p) (0 + e) (given .prime .two)) (system .below)));
+        inverse =
+            left-moved (solutionOf r n m w₄ 0) (inverseOf r n m w₄ 0) solution-one inverse-one
+            (one-one (q .p) r (given .modulus .some));
+      };
+      identity = solution-one;
+      companion = companion-same matrix-same side-same (system .companion);
+      starts = start-same;
+    }
 
   -- a row of n words lies in the room wherever a place does
   pub answer-inside : {x : ℕ} {z y : List ℕ} → length z ≡ length work → length y ≡ n → x + m ≤ 16 * m

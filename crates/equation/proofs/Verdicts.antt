@@ -1,10 +1,10 @@
--- The verdict on a call and its outcome: the checks and then rule 8; an accepted call has buffers that can be run; a
--- refused call changes nothing, and one that was run is done.
+-- The verdict on a call and its outcome: the checks and then rule 8; an accepted call has buffers that can be run, and
+-- one that was run is done.
 -- Assumes nothing.
 use mathlib.Core.Path.{_≡_, refl, sym, subst, _∙_}
 use mathlib.Core.Logic.{_≢_}
 use mathlib.Core.List.{List}
-use Prim.Native.Nat.{ℕ, _+_, _*_, _<_, _≤_}
+use Prim.Native.Nat.{ℕ, _*_, _<_, _≤_}
 use native.Mathlib.Nat.{add-zero, mul-le-mul, mul-le-mul-left}
 use native.Mathlib.Decide.{decLt}
 use native.Mathlib.Omega.{arith}
@@ -15,7 +15,7 @@ use Rattle.job.specs.declared.Answer.{Answer}
 use Rattle.job.specs.declared.Answer.the-variants.{Done, LeadingZero}
 use Rattle.job.specs.declared.Kind.the-variants.{Equation}
 use Rattle.job.specs.Refusal.{done, Says, verdictOf}
-use Rattle.job.specs.Job.{Job, Buffers, buffers, words, wordAt, seriesAt, carried, roomOf, lengthsOf, readCount}
+use Rattle.job.specs.Job.{Buffers, buffers, words, wordAt, seriesAt, carried, roomOf, lengthsOf, readCount}
 use Rattle.job.specs.Rules.{checkRules, kindRules, callRules}
 use Rattle.job.specs.Outcome.{Filled, Solved, Outcome}
 use Rattle.job.proofs.Says.{
@@ -26,23 +26,12 @@ use Rattle.job.proofs.Says.{
   says-head,
   says-split,
   OtherThanDone,
-  answer-other,
 }
 use Rattle.job.proofs.Accepted.{Accepted, accepted}
 use Rattle.refusal.specs.Checked.{Checked, Judged, jobOf}
 use Rattle.refusal.proofs.Judged.{judged-next, judged-stop}
 use Rattle.newton.proofs.Outcomes.{words-below}
 use Rattle.equation.specs.Equation.{Ready, Ran}
-
--- a refused call, of any kind
-pub outcome-refused : (job : Job) {answer : Answer} → Judged (callRules words job) answer → OtherThanDone answer
-    → Outcome words job answer (job .lent)
-outcome-refused job {answer} judged other = record {
-  verdict = judged .says;
-  kept = λ number first second e. refl;
-  solved = λ e. absurd (answer-other answer other e);
-  cleared = λ e. absurd (answer-other answer other e);
-}
 
 module _ (r n p : ℕ) (lent : Buffers) where
   -- the first coefficient of a_r

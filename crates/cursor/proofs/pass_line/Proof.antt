@@ -124,8 +124,8 @@ module _ {M : Type 1} (𝓤 : URA M) (H : Heap 𝓤) (A : Atoms 𝓤) (W : Given
   at = (vptr b o ∷ [], (vint w64 n ∷ [], tt))
 
   -- what closing the borrow asks
-  made : n < 2 ^ 64 → h .field < 2 ^ 64 → Is T.the-row h′ (T′.lowered h′ ∷ [])
-  made fits other = LL.owes T.the-type T′.the-laws h′ ((refl, fits), ((refl, ok), ((refl, omega arith), tt)))
+  made : n < 2 ^ 64 → Is T.the-row h′ (T′.lowered h′ ∷ [])
+  made fits = LL.owes T.the-type T′.the-laws h′ ((refl, fits), ((refl, ok), ((refl, omega arith), tt)))
 
   abbrev Post : Val → SProp 𝓤
   Post =
@@ -202,8 +202,7 @@ module _ {M : Type 1} (𝓤 : URA M) (H : Heap 𝓤) (A : Atoms 𝓤) (W : Given
         $ assigns ! (of-opd ! (unit-lit !)) (from ! (stop !)) (init ! 13 refl (tt, tt))
         $ move ! (1 ∷ [])
         $ drop !
-        $ owned ! T.the-row (Is T.the-row) (LL.makes T.the-type T′.the-plain 𝓤 H A) h′ _
-        (made (gn .1) (was .1 .1 .1 .1 .0 .1))
+        $ owned ! T.the-row (Is T.the-row) (LL.makes T.the-type T′.the-plain 𝓤 H A) h′ _ (made (gn .1))
         $ move ! (1 ∷ 0 ∷ [])
         $ closes ! tt T.the-row h′ (T′.lowered h′ ∷ []) b o
         $ returns ! (look ! 11 refl)

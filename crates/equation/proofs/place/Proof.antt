@@ -111,10 +111,12 @@ returns c =
     let first = solution-set second in
     let system = translated first in
     let zeros = cleared system in
-    placed (given zeros) (zeros .clear .kept .0) (zeros .clear .ensures) (system .translate .kept .1 .1 .1 .1 .1 .0)
-    (system .translate .ensures) (first .spread .kept .1 .1 .1 .1 .1 .0) (first .spread .ensures)
-    (second .spread2 .kept .1 .1 .1 .1 .1 .0) (second .spread2 .ensures) (third .spread3 .kept .1 .1 .1 .1 .1 .0)
-    (third .spread3 .ensures)
+    let len = zeros .clear .kept .0 in
+    let len₁ = system .translate .kept .1 .1 .1 .1 .1 .0 in
+    let len₂ = first .spread .kept .1 .1 .1 .1 .1 .0 in
+    let len₃ = second .spread2 .kept .1 .1 .1 .1 .1 .0 in
+    placed (given zeros) (zeros .clear .ensures) (system .translate .ensures) (first .spread .ensures)
+    (second .spread2 .ensures) (third .spread3 .ensures) (omega (arith, third .spread3 .kept .1 .1 .1 .1 .1 .0))
 
 pub place-spec : {M : Type 1} → statement M
 place-spec =

@@ -2,9 +2,11 @@
 -- unknown is handed over, and the room cleared again.
 -- Assumes nothing.
 use mathlib.Core.Path.{_≡_}
+use Prim.Native.Nat.{_+_}
 use native.Mathlib.Omega.{arith}
 use borrow.Author.Needs.{needs}
 use lib.ListN.{length}
+use Rattle.matrix.proofs.Written.{written-below}
 use Rattle.equation.specs.Equation.{Ready}
 use Rattle.equation.proofs.Rooms.{ready-translatable, starts-spread}
 use Rattle.equation.proofs.Halving.{rows-small, used, room-places, answer-inside, ready-solvable, ran}
@@ -79,9 +81,11 @@ solve-rows-requires c κs =
     let starts = c .before .before .before in
     let system = translated starts in
     let zeros = cleared system in
-    ready-solvable (given zeros) (zeros .clear .kept .0) (zeros .clear .ensures)
-    (system .translate .kept .1 .1 .1 .1 .1 .0) (system .translate .ensures) (starts .spread .kept .1 .1 .1 .1 .1 .0)
-    (starts .spread .ensures)
+    let len = zeros .clear .kept .0 in
+    let len₁ = system .translate .kept .1 .1 .1 .1 .1 .0 in
+    ready-solvable (given zeros) (omega (arith, starts .spread .kept .1 .1 .1 .1 .1 .0))
+    (written-below (starts .spread .ensures) (λ e k. given zeros .below-three (0 + e))
+    (system .translate .ensures .below))
 
 mul-hand-over : tie.Need-mul-hand-over
 mul-hand-over c = omega (arith, rows-small (given (cleared (translated (started (c .before .before))))))
@@ -110,10 +114,8 @@ returns c =
     let starts = started solved in
     let system = translated starts in
     let zeros = cleared system in
-    ran (given zeros) (zeros .clear .kept .0) (zeros .clear .ensures)
-    (system .translate .kept .1 .1 .1 .1 .1 .0) (system .translate .ensures) (starts .spread .kept .1 .1 .1 .1 .1 .0)
-    (starts .spread .ensures) (solved .solve-rows .ensures) (handed .hand-over .ensures .0)
-    (handed .hand-over .ensures .1)
+    ran (given zeros) (zeros .clear .ensures) (system .translate .ensures) (starts .spread .ensures)
+    (solved .solve-rows .ensures) (handed .hand-over .ensures .0) (handed .hand-over .ensures .1)
 
 pub run-halving-spec : {M : Type 1} → statement M
 run-halving-spec =

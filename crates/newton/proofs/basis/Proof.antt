@@ -12,7 +12,7 @@ use Rattle.job.specs.Rules.{checkRules}
 use Rattle.job.proofs.Accepted.{Accepted, accepted}
 use Rattle.refusal.specs.Checked.{jobOf}
 use Rattle.refusal.proofs.Judged.{judged-done}
-use Rattle.newton.proofs.Outcomes.{outcome-refused, modulus-small, startable, outcome-singular}
+use Rattle.newton.proofs.Outcomes.{checks-refused, modulus-small, startable, outcome-singular}
 use Rattle.newton.proofs.Outcomes.{ready, outcome-done}
 use native.Mathlib.Omega.{arith}
 use borrow.Author.Needs.{needs}
@@ -35,12 +35,16 @@ same-length-3 : tie.Need-same-length-3
 same-length-3 c = search needs
 
 returns : tie.Need-returns
-returns c = outcome-refused _ (c .before .check-words .ensures) (c .match .keys2)
+returns c = checks-refused _ (c .before .check-words .ensures) (c .match .keys2)
+
+-- the entry, from the place before the checks
+abbrev entry : tie.After-check-words-arg2 → tie.Start
+entry c = c .before .before .before .before .before .before .before
 
 -- the job, once the checks have accepted it
 jobAt : tie.After-enum-told → Job
 jobAt c =
-    let s = c .before .before .before .before .before .before .before .before .before .before .before .args in
+    let s = entry (c .before .before .before .before) .args in
     jobOf Basis (s .r) (s .n) (s .p) (buffers (s .a .now) (s .y0 .now) (s .y .now) (s .z .now) (s .work .now))
 
 silent : (c : tie.After-enum-told) → Says (checkRules words (jobAt c)) done

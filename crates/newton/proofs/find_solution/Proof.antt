@@ -11,13 +11,15 @@ place-matrix-requires c κs = c .before .before .before .before .before .pre .pl
 
 mul-copy : tie.Need-mul-copy
 mul-copy c =
-    let start = c .before .before .before .before .before .before .before .before .before in
+    let placed = c .before .before .before in
+    let start = placed .before .before .before .before .before .before in
     let given = start .pre in
     omega (arith, start, given .placeable .matrix, given .placeable .room, thin given (given .placeable .matrix))
 
 mul-copy-2 : tie.Need-mul-copy-2
 mul-copy-2 c =
-    let start = c .before .before .before .before .before .before .before .before .before in
+    let placed = c .before .before .before in
+    let start = placed .before .before .before .before .before .before in
     let given = start .pre in
     omega (arith, start, given .placeable .matrix, given .placeable .room, thin given (given .placeable .matrix))
 
@@ -30,7 +32,8 @@ copy-requires c κs =
 
 mul-spread : tie.Need-mul-spread
 mul-spread c =
-    let start = c .before .before .before .before .before .before .before .before .before .before .before .before in
+    let placed = c .before .before .before .before .before .before in
+    let start = placed .before .before .before .before .before .before in
     let given = start .pre in
     omega (arith, start, given .placeable .matrix, given .placeable .room, thin given (given .placeable .matrix))
 

@@ -44,7 +44,8 @@ slice-aggregate-spread-2 c = search needs
 
 mul-spread : tie.Need-mul-spread
 mul-spread c =
-    let copied = c .before .before .before .before .before .before .before .before in
+    let first = c .before .before .before in
+    let copied = first .before .before .before .before .before in
     let cleared = copied .before .before .before .before in
     omega (arith, size-few (cleared .before .before .before .before .pre))
 

@@ -12,7 +12,8 @@ find-solution-requires c κs = c .before .before .before .before .before .before
 
 mul-copy : tie.Need-mul-copy
 mul-copy c =
-    let start = c .before .before .before .before .before .before .before .before .before .before in
+    let found = c .before .before .before in
+    let start = found .before .before .before .before .before .before .before in
     let given = start .pre .0 .placeable in
     omega (arith, start, given .matrix, given .room)
 

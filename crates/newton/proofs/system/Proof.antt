@@ -5,7 +5,7 @@ use Rattle.job.specs.declared.Kind.the-variants.{System}
 use Rattle.job.proofs.Accepted.{Accepted, accepted}
 use Rattle.refusal.specs.Checked.{jobOf}
 use Rattle.refusal.proofs.Judged.{judged-done}
-use Rattle.newton.proofs.Outcomes.{outcome-refused, system-modulus, system-ready, system-done}
+use Rattle.newton.proofs.Outcomes.{checks-refused, system-modulus, system-ready, system-done}
 use native.Mathlib.Omega.{arith}
 use borrow.Author.Needs.{needs}
 use Rattle.newton.proofs.system.Statement.{statement}
@@ -24,11 +24,15 @@ same-length-2 : tie.Need-same-length-2
 same-length-2 c = search needs
 
 returns : tie.Need-returns
-returns c = outcome-refused _ (c .before .check-words .ensures) (c .match .keys2)
+returns c = checks-refused _ (c .before .check-words .ensures) (c .match .keys2)
+
+-- the entry, from the place before the checks
+abbrev entry : tie.After-check-words-arg2 → tie.Start
+entry c = c .before .before .before .before .before .before .before
 
 -- the checks accept the job
 admitted : (c : tie.After-enum-told)
-    → let s = c .before .before .before .before .before .before .before .before .before .before .args in
+    → let s = entry (c .before .before .before) .args in
     Accepted words
     (jobOf System (s .r) (s .n) (s .p) (buffers (s .a .now) (s .b .now) (s .v .now) (s .y .now) (s .work .now)))
 admitted c = accepted words _ (judged-done (c .before .before .check-words .ensures) (c .enum-told .given .1))
