@@ -1,12 +1,19 @@
-// What other languages call: the jobs of document 01, on words and on bytes. The answer comes back as one number,
-// `packed` of specs/.
+// What other languages call: the jobs of document 01, on words and on bytes, and the readers and writers of sheets. The
+// answer comes back as one number, `packed` of specs/.
 use job::Answer;
+use job::Kind;
+use result::Written;
+use sheet::Reading;
 ghost use mathlib.Core.Path.{_≡_};
+ghost use mathlib.Core.List.{[], _∷_};
 ghost use Rattle.job.specs.Refusal.{verdictOf};
 ghost use Rattle.job.specs.Job.{buffers, words, bytes};
 ghost use Rattle.job.specs.declared.Kind.the-variants.{System, Basis, Equation};
 ghost use Rattle.refusal.specs.Checked.{jobOf};
+ghost use Rattle.header.specs.Header.{header};
 ghost use Rattle.pealvixen.specs.Packing.{packed, PackedOutcome};
+ghost use Rattle.pealvixen.specs.Sheets.{kindNumber, refusedSheet, refusedText, told, toldWritten};
+ghost use Rattle.pealvixen.specs.Sheets.{LineFits, PlacesFit, JobTold, ResultTold, WriteTold};
 
 // The answer as one number.
 fn pack(a: Answer) -> u64
@@ -244,4 +251,174 @@ pub extern "C" fn pealvixen_equation_newton_bytes(
 {
     let answer = bytejobs::equation_newton(r, n, p, a, b, start, y, work);
     pack(answer)
+}
+
+// What a reader of sheets tells: the answer as one number, and what line 1 says, or zeros where the sheet is refused.
+#[repr(C)]
+pub struct SheetRead {
+    pub answer: u64,
+    pub kind: u64,
+    pub r: u64,
+    pub n: u64,
+    pub p: u64,
+}
+
+// The number of a kind.
+fn number_of(kind: Kind) -> u64
+    ensures { λ r. ⌜ r ≡ kindNumber kind ⌝ }
+{
+    match kind {
+        Kind::System => 1,
+        Kind::Basis => 2,
+        Kind::Equation => 3,
+    }
+}
+
+// A refused sheet.
+fn refuse_sheet(answer: u64) -> SheetRead
+    ensures { λ r. ⌜ r ≡ refusedSheet answer ⌝ }
+{
+    SheetRead {
+        answer,
+        kind: 0,
+        r: 0,
+        n: 0,
+        p: 0,
+    }
+}
+
+// What a reader answers, told in numbers.
+fn tell(x: Reading) -> SheetRead
+    requires { ⌜ LineFits x ⌝ }
+    ensures { λ r. ⌜ r ≡ told x ⌝ }
+{
+    match x {
+        Reading::Done(h) => {
+            let kind = h.kind;
+            SheetRead {
+                answer: 0,
+                kind: number_of(kind),
+                r: h.r,
+                n: h.n,
+                p: h.p,
+            }
+        }
+        Reading::Refused(a) => refuse_sheet(pack(a)),
+        Reading::Broken(line) => refuse_sheet(9 + 256 * (line as u64)),
+    }
+}
+
+// Reads a job sheet into three rooms.
+#[no_mangle]
+pub extern "C" fn pealvixen_read_job(
+    text: &[u8],
+    one: &mut [u32],
+    two: &mut [u32],
+    three: &mut [u32],
+) -> SheetRead
+    ensures { λ x. ⌜
+        JobTold (now (text .entry)) (now (one .entry) ∷ now (two .entry) ∷ now (three .entry) ∷ []) x
+        (now (one .exit) ∷ now (two .exit) ∷ now (three .exit) ∷ [])
+        ⌝ }
+{
+    let reading = sheet::read_job(text, one, two, three);
+    tell(reading)
+}
+
+// Reads a result sheet into two rooms.
+#[no_mangle]
+pub extern "C" fn pealvixen_read_result(text: &[u8], one: &mut [u32], two: &mut [u32]) -> SheetRead
+    ensures { λ x. ⌜
+        ResultTold (now (text .entry)) (now (one .entry) ∷ now (two .entry) ∷ []) x
+        (now (one .exit) ∷ now (two .exit) ∷ [])
+        ⌝ }
+{
+    let reading = reread::read_result(text, one, two);
+    tell(reading)
+}
+
+// What a writer of sheets tells: the answer as one number, and the text's length in bytes, or 0 where it is refused.
+#[repr(C)]
+pub struct SheetWritten {
+    pub answer: u64,
+    pub length: u64,
+}
+
+// A refusal to write.
+fn refuse_text(number: u64, first: u64, second: u64) -> SheetWritten
+    requires { ⌜ PlacesFit number first second ⌝ }
+    ensures { λ r. ⌜ r ≡ refusedText number first second ⌝ }
+{
+    SheetWritten {
+        answer: number + 256 * first + 4294967296 * second,
+        length: 0,
+    }
+}
+
+// What a writer answers, told in numbers.
+fn tell_written(w: Written) -> SheetWritten
+    ensures { λ r. ⌜ r ≡ toldWritten w ⌝ }
+{
+    match w {
+        Written::Done { length } => SheetWritten {
+            answer: 0,
+            length: length as u64,
+        },
+        Written::Order => refuse_text(1, 0, 0),
+        Written::Terms => refuse_text(2, 0, 0),
+        Written::Modulus => refuse_text(3, 0, 0),
+        Written::TermsOverModulus => refuse_text(4, 0, 0),
+        Written::Length { buffer } => refuse_text(5, buffer as u64, 0),
+        Written::Word { buffer, index } => refuse_text(6, buffer as u64, index as u64),
+        Written::Large => refuse_text(10, 0, 0),
+    }
+}
+
+// Writes the result sheet of a system.
+#[no_mangle]
+pub extern "C" fn pealvixen_write_system(
+    r: u64,
+    n: u64,
+    p: u64,
+    y: &[u32],
+    text: &mut [u8],
+) -> SheetWritten
+    ensures { λ x. ⌜ WriteTold (header System r n p) (now (y .entry) ∷ [])
+        (now (text .entry)) x (now (text .exit)) ⌝ }
+{
+    let written = result::write_system(r, n, p, y, text);
+    tell_written(written)
+}
+
+// Writes the result sheet of an equation.
+#[no_mangle]
+pub extern "C" fn pealvixen_write_equation(
+    r: u64,
+    n: u64,
+    p: u64,
+    y: &[u32],
+    text: &mut [u8],
+) -> SheetWritten
+    ensures { λ x. ⌜ WriteTold (header Equation r n p) (now (y .entry) ∷ [])
+        (now (text .entry)) x (now (text .exit)) ⌝ }
+{
+    let written = result::write_equation(r, n, p, y, text);
+    tell_written(written)
+}
+
+// Writes the result sheet of a basis.
+#[no_mangle]
+pub extern "C" fn pealvixen_write_basis(
+    r: u64,
+    n: u64,
+    p: u64,
+    y: &[u32],
+    z: &[u32],
+    text: &mut [u8],
+) -> SheetWritten
+    ensures { λ x. ⌜ WriteTold (header Basis r n p) (now (y .entry) ∷ now (z .entry) ∷ [])
+        (now (text .entry)) x (now (text .exit)) ⌝ }
+{
+    let written = result::write_basis(r, n, p, y, z, text);
+    tell_written(written)
 }
