@@ -6,7 +6,7 @@
 use crate::turns::{best_of_turns, head, row};
 use crate::{random_words, P};
 use pealvixen::lent::{self, Cell};
-use pealvixen::{Method, ABSENT};
+use pealvixen::Method;
 
 /// A system job in words or bytes.
 struct Job<C> {
@@ -45,7 +45,6 @@ impl<C: Cell> Job<C> {
 }
 
 pub fn short_jobs() {
-    let bytes = !ABSENT.contains(&"pealvixen_system_halving_bytes");
     let columns = [
         "r",
         "N",
@@ -55,10 +54,7 @@ pub fn short_jobs() {
         "bytes",
         "test/bytes",
     ];
-    head(
-        "Short systems by halving",
-        &columns[..if bytes { 7 } else { 5 }],
-    );
+    head("Short systems by halving", &columns);
     let mut seed = 6;
     for (r, n) in [
         (1, 16),
@@ -80,27 +76,19 @@ pub fn short_jobs() {
             y: vec![0; r * n],
             work: vec![0; 16 * r * r * n],
         };
-        let (whole, test) = words.measure();
-        let mut cells = vec![
-            format!("{test:.2}"),
-            format!("{whole:.2}"),
-            format!("{:.2}", test / whole),
-        ];
-        if bytes {
-            let mut job = Job {
-                r: r as u64,
-                n: n as u64,
-                read: in_bytes,
-                y: vec![0; 4 * r * n],
-                work: vec![0; 64 * r * r * n],
-            };
-            let (whole, test) = job.measure();
-            assert!(
-                as_bytes(&words.y) as Vec<u8> == job.y,
-                "bytes differ at {r}, {n}"
-            );
-            cells.extend([format!("{whole:.2}"), format!("{:.2}", test / whole)]);
-        }
+        let mut job = Job {
+            r: r as u64,
+            n: n as u64,
+            read: in_bytes,
+            y: vec![0; 4 * r * n],
+            work: vec![0; 64 * r * r * n],
+        };
+        let (on_words, test) = words.measure();
+        let (on_bytes, again) = job.measure();
+        let same = as_bytes(&words.y) as Vec<u8> == job.y;
+        assert!(same, "bytes differ at {r}, {n}");
+        let cells = [test, on_words, test / on_words, on_bytes, again / on_bytes];
+        let cells = cells.map(|cell| format!("{cell:.2}"));
         row(r, n, &cells);
     }
 }

@@ -9,6 +9,7 @@ mod halving;
 mod naive;
 mod newton;
 mod sums;
+mod translation;
 mod turns;
 
 /// The modulus of all jobs.
@@ -30,11 +31,12 @@ fn random_words(seed: &mut u64, count: usize) -> Vec<u32> {
 
 /// Prints the tables that are named, or all.
 fn main() {
-    let tables: [(&str, fn()); 5] = [
+    let tables: [(&str, fn()); 6] = [
         ("halving", halving::systems),
         ("systems", newton::systems),
         ("bases", newton::bases),
         ("equations", equation::equations),
+        ("translation", translation::translations),
         ("short", bytes::short_jobs),
     ];
     let chosen: Vec<String> = std::env::args().skip(1).collect();

@@ -3,14 +3,12 @@
 #![forbid(unsafe_code)]
 
 use pealvixen::lent::{self, Cell};
-use pealvixen::{Method, ABSENT};
+use pealvixen::Method;
 use reference::jobs::{ByteJob, WordJob};
 use reference::random::WriterCall;
 use reference::sheets::{self, rooms_after, text_after};
 use reference::{Answer, Kind};
 use std::fmt::Debug;
-
-const METHODS: [Method; 2] = [Method::Halving, Method::Newton];
 
 /// The packed answer that the library must give: number + 2^8 * first place + 2^32 * second place, and 0 for done.
 pub fn packed<T>(answer: &Answer<T>) -> u64 {
@@ -18,11 +16,6 @@ pub fn packed<T>(answer: &Answer<T>) -> u64 {
         None => 0,
         Some((number, first, second)) => number + (first << 8) + (second << 32),
     }
-}
-
-/// Does the archive have this function?
-pub fn exported(name: &str) -> bool {
-    !ABSENT.contains(&format!("pealvixen_{name}").as_str())
 }
 
 /// How many calls were compared, and how often each answer came, with 0 for done.
@@ -48,7 +41,7 @@ impl Tally {
             before: &job.buffers,
             after: &after,
             code: packed(&answer),
-            suffix: "",
+            of: "words",
         };
         for _ in 0..ran.compare(0) {
             self.count(&answer);
@@ -65,7 +58,7 @@ impl Tally {
             before: &job.buffers,
             after: &after,
             code: packed(&answer),
-            suffix: "_bytes",
+            of: "bytes",
         };
         for _ in 0..ran.compare(0xa5) {
             self.count(&answer);
@@ -77,13 +70,11 @@ impl Tally {
         let [one, two, three] = rooms;
         let answer = sheets::read_job(text, [one.len(), two.len(), three.len()]);
         self.count(&answer);
-        if exported("read_job") {
-            let mut after = rooms.clone();
-            let [one, two, three] = &mut after;
-            let sheet = lent::read_job(text, one, two, three);
-            compare_sheet(text, sheet, &answer);
-            assert!(after[..] == rooms_after(rooms, &answer), "{}", shown(text));
-        }
+        let mut after = rooms.clone();
+        let [one, two, three] = &mut after;
+        let sheet = lent::read_job(text, one, two, three);
+        compare_sheet(text, sheet, &answer);
+        assert!(after[..] == rooms_after(rooms, &answer), "{}", shown(text));
     }
 
     /// Compares the reading of a result sheet into rooms that hold these words.
@@ -91,39 +82,30 @@ impl Tally {
         let [one, two] = rooms;
         let answer = sheets::read_result(text, [one.len(), two.len()]);
         self.count(&answer);
-        if exported("read_result") {
-            let mut after = rooms.clone();
-            let [one, two] = &mut after;
-            let sheet = lent::read_result(text, one, two);
-            compare_sheet(text, sheet, &answer);
-            assert!(after[..] == rooms_after(rooms, &answer), "{}", shown(text));
-        }
+        let mut after = rooms.clone();
+        let [one, two] = &mut after;
+        let sheet = lent::read_result(text, one, two);
+        compare_sheet(text, sheet, &answer);
+        assert!(after[..] == rooms_after(rooms, &answer), "{}", shown(text));
     }
 
     /// Compares a call of a writer, into text that holds this byte throughout.
     pub fn writer(&mut self, call: &WriterCall, byte: u8) {
         let answer = call.answer();
         self.count(&answer);
-        let name = match call.kind {
-            Kind::System => "write_system",
-            Kind::Basis => "write_basis",
-            Kind::Equation => "write_equation",
+        let before = vec![byte; call.text_length];
+        let mut text = before.clone();
+        let (r, n, p) = (call.r, call.n, call.p);
+        let written = match (call.kind, &call.words[..]) {
+            (Kind::System, [y]) => lent::write_system(r, n, p, y, &mut text),
+            (Kind::Equation, [y]) => lent::write_equation(r, n, p, y, &mut text),
+            (Kind::Basis, [y, z]) => lent::write_basis(r, n, p, y, z, &mut text),
+            _ => unreachable!("a call has as many slices of words as its kind"),
         };
-        if exported(name) {
-            let before = vec![byte; call.text_length];
-            let mut text = before.clone();
-            let (r, n, p) = (call.r, call.n, call.p);
-            let written = match (call.kind, &call.words[..]) {
-                (Kind::System, [y]) => lent::write_system(r, n, p, y, &mut text),
-                (Kind::Equation, [y]) => lent::write_equation(r, n, p, y, &mut text),
-                (Kind::Basis, [y, z]) => lent::write_basis(r, n, p, y, z, &mut text),
-                _ => unreachable!("a call has as many slices of words as its kind"),
-            };
-            assert_eq!(written.answer, packed(&answer), "{call:?}");
-            let length = answer.done().map_or(0, |text| text.len() as u64);
-            assert_eq!(written.length, length, "{call:?}");
-            assert!(text == text_after(&before, &answer), "{call:?}");
-        }
+        assert_eq!(written.answer, packed(&answer), "{call:?}");
+        let length = answer.done().map_or(0, |text| text.len() as u64);
+        assert_eq!(written.length, length, "{call:?}");
+        assert!(text == text_after(&before, &answer), "{call:?}");
     }
 
     /// Prints a line on what was compared.
@@ -169,38 +151,34 @@ struct Ran<'a, C> {
     before: &'a [Vec<C>; 5],
     after: &'a [Vec<C>; 5],
     code: u64,
-    suffix: &'static str,
+    of: &'static str,
 }
 
 impl<C: Cell + PartialEq + Debug> Ran<'_, C> {
     /// Runs the job by each method that the library has, and answers how many there were. Each buffer stands between
     /// cells that no call may touch.
     fn compare(&self, guard: C) -> usize {
-        let mut count = 0;
-        for method in METHODS {
-            let name = match (self.kind, method) {
-                (Kind::System, Method::Halving) => "system_halving",
-                (Kind::System, Method::Newton) => "system_newton",
-                (Kind::Basis, Method::Newton) => "basis",
-                (Kind::Equation, Method::Halving) => "equation_halving",
-                (Kind::Equation, Method::Newton) => "equation_newton",
-                (Kind::Basis, Method::Halving) => continue,
-            };
-            if !exported(&format!("{name}{}", self.suffix)) {
-                continue;
-            }
+        let methods: &[Method] = match self.kind {
+            Kind::System | Kind::Equation => &[Method::Halving, Method::Newton],
+            Kind::Basis => &[Method::Newton],
+        };
+        for &method in methods {
             let mut lent = guarded(self.before, guard);
             let code = call(self.kind, method, self.numbers, &mut lent);
-            let what = || format!("{name}{} at {:?}", self.suffix, self.numbers);
+            let what = || {
+                format!(
+                    "{} {:?} {method:?} at {:?}",
+                    self.of, self.kind, self.numbers
+                )
+            };
             assert_eq!(code, self.code, "the answers differ: {}", what());
             let expected = guarded(self.after, guard);
             for place in 0..5 {
                 let same = lent[place] == expected[place];
                 assert!(same, "buffer {} differs: {}", place + 1, what());
             }
-            count += 1;
         }
-        count
+        methods.len()
     }
 }
 

@@ -1,25 +1,7 @@
-//! The header, the archive and this crate speak of the same functions.
+//! The header and the Rust crate speak of the same functions.
 
-use pealvixen::ABSENT;
 use std::collections::BTreeSet;
 use std::path::Path;
-
-/// Functions that the archive is still to export. A line goes away as its function comes; none may be added.
-const OWED: &[&str] = &[
-    "pealvixen_read_job",
-    "pealvixen_read_result",
-    "pealvixen_write_system",
-    "pealvixen_write_equation",
-    "pealvixen_write_basis",
-];
-
-#[test]
-fn nothing_is_absent_but_what_is_owed() {
-    for name in ABSENT {
-        assert!(OWED.contains(name), "the archive has lost {name}");
-        println!("not compared, the archive does not have it yet: {name}");
-    }
-}
 
 /// The names in a file that begin with the project's prefix and are followed by one of these characters.
 fn names(path: &str, behind: &[char]) -> BTreeSet<String> {

@@ -353,7 +353,7 @@ pub fn equation<C: Cell>(
 
 /// Reads a job sheet into three rooms of 2048 words.
 ///
-/// ```no_run
+/// ```
 /// use pealvixen::lent;
 ///
 /// let text = b"system\t1\t3\t7\nA\t1\t1\t1\t0\t0\nb\t1\t0\t0\t0\nv\t-6\n";
@@ -379,7 +379,7 @@ pub fn read_job(text: &[u8], one: &mut [u32], two: &mut [u32], three: &mut [u32]
 
 /// Reads a result sheet into two rooms of 2048 words.
 ///
-/// ```no_run
+/// ```
 /// use pealvixen::lent;
 ///
 /// let [mut one, mut two] = [[0; 2048]; 2];
@@ -402,7 +402,7 @@ pub fn read_result(text: &[u8], one: &mut [u32], two: &mut [u32]) -> Sheet {
 
 /// Writes the result sheet of a system into 65536 bytes for text.
 ///
-/// ```no_run
+/// ```
 /// use pealvixen::lent;
 ///
 /// let mut text = vec![0; 65536];
@@ -415,7 +415,7 @@ pub fn write_system(r: u64, n: u64, p: u64, y: &[u32], text: &mut [u8]) -> Text 
 
 /// Writes the result sheet of an equation into 65536 bytes for text.
 ///
-/// ```no_run
+/// ```
 /// use pealvixen::lent;
 ///
 /// let mut text = vec![0; 65536];
@@ -428,7 +428,7 @@ pub fn write_equation(r: u64, n: u64, p: u64, y: &[u32], text: &mut [u8]) -> Tex
 
 /// Writes the result sheet of a basis into 65536 bytes for text.
 ///
-/// ```no_run
+/// ```
 /// use pealvixen::lent;
 ///
 /// let mut text = vec![0; 65536];

@@ -34,13 +34,11 @@
 //! What is proved of the library stands in `docs/SIGNATURE.md` of the project; this crate is not proved, but it only
 //! hands slices over and takes answers apart. [`lent`] has the library's functions as they are.
 
-mod absent;
 mod jobs;
 pub mod lent;
 mod refusal;
 mod sheets;
 
-pub use absent::ABSENT;
 pub use jobs::{Basis, Equation, Matrix, Room, Solution, System, Vector};
 pub use lent::Cell;
 pub use refusal::Refusal;

@@ -66,7 +66,7 @@ pub enum Solved<'d> {
 
 /// Reads a job sheet.
 ///
-/// ```no_run
+/// ```
 /// use pealvixen::{read_job, write_system, Desk, Job, Method, Refusal, Room};
 ///
 /// let text = b"system\t1\t3\t7\nA\t1\t1\t1\t0\t0\nb\t1\t0\t0\t0\nv\t-6\n";
@@ -120,7 +120,7 @@ pub fn read_job<'d>(text: &[u8], desk: &'d mut Desk) -> Result<Job<'d>, Refusal>
 
 /// Reads a result sheet: exactly the sheets that the writers write.
 ///
-/// ```no_run
+/// ```
 /// use pealvixen::{read_result, Desk, Solved};
 ///
 /// let mut desk = Desk::new();
@@ -161,7 +161,7 @@ pub fn read_result<'d>(text: &[u8], desk: &'d mut Desk) -> Result<Solved<'d>, Re
 
 /// Writes the result sheet of a system; y has r*N words.
 ///
-/// ```no_run
+/// ```
 /// let mut desk = pealvixen::Desk::new();
 /// let sheet = pealvixen::write_system(1, 3, 7, &[1, 1, 4], &mut desk)?;
 /// assert_eq!(sheet, "result\tsystem\t1\t3\t7\ny\t1\t1\t1\t-3\n");
@@ -180,7 +180,7 @@ pub fn write_system<'d>(
 
 /// Writes the result sheet of an equation; y has N words.
 ///
-/// ```no_run
+/// ```
 /// let mut desk = pealvixen::Desk::new();
 /// let sheet = pealvixen::write_equation(3, 3, 5, &[0, 0, 3], &mut desk)?;
 /// assert_eq!(sheet, "result\tequation\t3\t3\t5\ny\t1\t0\t0\t-2\n");
@@ -199,7 +199,7 @@ pub fn write_equation<'d>(
 
 /// Writes the result sheet of a basis; Y and Z have r*r*N words each.
 ///
-/// ```no_run
+/// ```
 /// let mut desk = pealvixen::Desk::new();
 /// let sheet = pealvixen::write_basis(1, 2, 7, &[2, 2], &[4, 3], &mut desk)?;
 /// assert_eq!(sheet, "result\tbasis\t1\t2\t7\nY\t1\t1\t2\t2\nZ\t1\t1\t-3\t3\n");
