@@ -49,8 +49,9 @@ behind-first c =
     let word = before .before .before .before .before in
     let start = word .before .before .before .before .before .before in
     let put = field .put-field2 .ensures in
-    let short = digits-room (start .args .first) (start .fits .first .fits) in
-    omega (arith, behind-number before, put .end, put .long, short)
+    let first = digits-room (start .args .first) (start .fits .first .fits) in
+    let second = digits-room (start .args .second) (start .fits .second .fits) in
+    omega (arith, behind-number before, put .end, put .long, first, second)
 
 put-field-requires-3 : tie.Need-put-field-requires-3
 put-field-requires-3 c κs = omega (arith, behind-first (c .before))
