@@ -4,7 +4,7 @@ use mathlib.Core.Path.{_≡_, refl, sym, ap, _∙_}
 use mathlib.Core.Logic.{inl, inr}
 use mathlib.Core.List.{List}
 use Prim.Native.Nat.{ℕ, suc, _+_, _-_, _*_, _%_, _<_, _≤_}
-use native.Mathlib.Nat.{zero-add, add-zero, mul-le-mul}
+use native.Mathlib.Nat.{zero-add, add-zero}
 use native.Mathlib.Decide.{ℕ-discrete}
 use native.Mathlib.Omega.{arith}
 use lib.ListN.{length, getD}
@@ -17,59 +17,49 @@ use Rattle.matrix.specs.Product.{firstTerms}
 use Rattle.newton.specs.Basis.{spreadTerm}
 use Rattle.halving.specs.Layout.{rightSide, movedSide, unknown, roomMatrix}
 use Rattle.halving.specs.Halving.{Solvable, RowsSolved}
-use Rattle.halving.proofs.Rows.{row-end, rows-le}
+use Rattle.halving.proofs.Rows.{row-end}
 use Rattle.equation.specs.Translation.{matrixFrom, sideFrom, Places, Translated}
 use Rattle.equation.specs.Equation.{Ready, Ran}
 use Rattle.equation.proofs.Places.{place-unique}
 use Rattle.equation.proofs.System.{side-last, side-other}
-use Rattle.equation.proofs.Rooms.{ready-ran}
-
--- the words that are used of a room are fewer than it has
-room-enough : (r n : ℕ) → 1 ≤ r → (3 * r + 1) * n + r * r * n ≤ 16 * (r * r * n)
-room-enough r n some =
-    let square : 1 * r ≤ r * r = rows-le r 1 r some in
-    omega (arith, rows-le (r * r) r n (omega arith), rows-le (r * r) 1 n (omega arith))
+use Rattle.equation.proofs.Rooms.{rows-inside, ready-ran}
 
 module _ {q : Modulus} {r n : ℕ} {a b start work : List ℕ} (given : Ready q r n a b start work) where
-  -- the solver's places: the matrix, the last row of the right side, and the first of the copies as scratch
+  -- the solver's places: the matrix and the last row of the right side; and scratch behind the words that it uses
   abbrev at : ℕ
   at = (3 * r + 1) * n
 
   abbrev side : ℕ
   side = (r - 1) * n + 1
 
-  abbrev back : ℕ
-  back = 2 * r * n
-
-  -- a row of n words lies before the next, and there is at least one row
-  some-row : n ≤ r * n
-  some-row = omega (arith, rows-le r 1 n (given .order-least))
+  abbrev free : ℕ
+  free = 8 * (r * r * n)
 
   last-end : (r - 1) * n + n ≤ r * n
   last-end = row-end {i = r - 1} {r = r} n (omega (arith, given .order-least))
 
-  -- where the right side's last row and the unknowns start
-  pub rows-small : (side ≤ 32768) × (r * n ≤ 32768)
-  rows-small =
-      let small : r * n ≤ 32768 = mul-le-mul (given .order) (given .terms) in
-      (omega (arith, last-end, given .terms-least), small)
+  used : (3 * r + 1) * n + r * r * n ≤ free
+  used = omega (arith, rows-inside given)
 
-  pub used : (3 * r + 1) * n + r * r * n ≤ length work
-  used = omega (arith, room-enough r n (given .order-least), given .room)
-
-  pub room-places : {x : ℕ} {w : List ℕ} → length w ≡ length work → x ≤ 1 → Places r n w at ((r - 1) * n + x) back
-  room-places len early = record {
-    matrix = omega (arith, used);
-    right-side = omega (arith, used, last-end, some-row);
-    scratch = omega (arith, used, some-row);
-    matrix-side = record { apart = inr (omega (arith, last-end, some-row, given .terms-least)) };
-    matrix-scratch = record { apart = inr (omega (arith, some-row)) };
-    side-scratch = record { apart = inl (omega (arith, last-end, some-row, given .terms-least)) };
-  }
+  pub room-places : {x : ℕ} {w : List ℕ} → length w ≡ length work → x ≤ 1 → Places r n w at ((r - 1) * n + x) free
+  room-places len early =
+      let rows = rows-inside given in
+      let last = last-end in
+      let some = given .terms-least in
+      record {
+        matrix = omega (arith, used, given .room);
+        right-side = omega (arith, given .room);
+        scratch = omega (arith, given .room);
+        matrix-side = record { apart = inr (omega arith) };
+        matrix-scratch = record { apart = inl used };
+        side-scratch = record { apart = inl (omega arith) };
+      }
 
   -- the row of the first unknown
   pub answer-inside : {z y : List ℕ} → length z ≡ length work → length y ≡ n → Inside z (r * n) n × Inside y 0 n
-  answer-inside len long = (record { within = omega (arith, used, some-row) }, record { within = omega arith })
+  answer-inside len long =
+      let rows = rows-inside given in
+      (record { within = omega (arith, given .room) }, record { within = omega arith })
 
   -- residues in a room of that length
   pub ready-solvable : {w : List ℕ} → length w ≡ length work → Below (q .p) w → Solvable q r n w
@@ -84,11 +74,11 @@ module _ {q : Modulus} {r n : ℕ} {a b start work : List ℕ} (given : Ready q 
     };
     prime = given .prime;
     few = given .few;
-    room = omega (arith, len, used);
+    room = omega (arith, len, used, given .room);
   }
 
   -- the room cleared, with the system, with the start, and solved
-  module _ {w w₁ w₂ z : List ℕ} (zeros : Zeros w) (system : Translated (q .p) r n a b at side back w w₁)
+  module _ {w w₁ w₂ z : List ℕ} (zeros : Zeros w) (system : Translated (q .p) r n a b at side free w w₁)
       (starts : Written r n (firstTerms 0 1) (spreadTerm start 0) w₁ w₂) (solved : RowsSolved (q .p) r n w₂ z) where
     -- the starts stand in the rows' first words, and no other word has changed
     inner-kept : (i k : ℕ) → suc k < n → getD w₂ (i * n + suc k) 0 ≡ getD w₁ (i * n + suc k) 0
@@ -115,14 +105,14 @@ module _ {q : Modulus} {r n : ℕ} {a b start work : List ℕ} (given : Ready q 
           | no e ↦
               let before : i * n + n ≤ (r - 1) * n = row-end {i = i} {r = r - 1} n (omega arith) in
               inner-kept i k hk
-              ∙ system .kept (i * n + suc k) (inl (omega (arith, last-end, some-row))) (inl (omega arith))
-              (inl (omega (arith, last-end, some-row)))
+              ∙ system .kept (i * n + suc k) (inl (omega (arith, last-end, rows-inside given))) (inl (omega arith))
+              (inl (omega (arith, last-end, rows-inside given)))
               ∙ zeros .zeros (i * n + suc k)
               ∙ sym (side-other w₁ side k (omega arith))
         ]
 
     matrix-term : (k i j : ℕ) → roomMatrix w₂ r n k i j ≡ matrixFrom w₁ at r n k i j
-    matrix-term k i j = behind-kept (at + ((i * r + j) * n + k)) (omega (arith, some-row))
+    matrix-term k i j = behind-kept (at + ((i * r + j) * n + k)) (omega (arith, rows-inside given))
 
     -- the unknowns solve the equation's system
     companion-series

@@ -22,12 +22,11 @@ use Rattle.newton.proofs.Starts.{left-moved}
 use Rattle.newton.proofs.Units.{diagonal-inside, diagonal-reach, diagonal-ones}
 use Rattle.newton.proofs.Matrices.{units, units-at, units-small}
 use Rattle.newton.proofs.Solutions.{one-one, vector-place}
-use Rattle.halving.proofs.Rows.{rows-le}
 use Rattle.equation.specs.Translation.{matrixFrom, sideFrom, Places, Translated}
 use Rattle.equation.specs.Equation.{Ready, Placed, Ran}
 use Rattle.equation.proofs.Quotients.{companion-same}
 use Rattle.equation.proofs.System.{side-last, side-other}
-use Rattle.equation.proofs.Rooms.{ready-ran}
+use Rattle.equation.proofs.Rooms.{rows-inside, ready-ran}
 
 module _ {q : Modulus} {r n : ℕ} {a b start work : List ℕ} (given : Ready q r n a b start work) where
   -- the words of a place, and those from one entry of the diagonal to the next
@@ -41,26 +40,14 @@ module _ {q : Modulus} {r n : ℕ} {a b start work : List ℕ} (given : Ready q 
   abbrev side : ℕ
   side = 8 * m + (r - 1) * n
 
-  pub sizes : (r * r ≤ 64) × (m ≤ 262144) × (step ≤ 36864) × ((r - 1) * n ≤ 32768)
-  sizes =
-      let square : r * r ≤ 64 = mul-le-mul (given .order) (given .order) in
-      let more : r + 1 ≤ 9 = omega (arith, given .order) in
-      let less : r - 1 ≤ 8 = omega (arith, given .order) in
-      (square, mul-le-mul square (given .terms), mul-le-mul more (given .terms), mul-le-mul less (given .terms))
-
   step-least : 1 ≤ step
   step-least =
       let more : 1 ≤ r + 1 = omega arith in
       mul-le-mul more (given .terms-least)
 
-  -- a vector takes no more words than a place has
-  pub rows-inside : r * n ≤ m
-  rows-inside =
-      let square : 1 * r ≤ r * r = rows-le r 1 r (given .order-least) in
-      rows-le (r * r) r n (omega arith)
-
+  -- a row of a vector ends inside its place
   row-inside : {i : ℕ} → i < r → i * n + n ≤ m
-  row-inside {i} l = omega (arith, stride n l, rows-inside)
+  row-inside {i} l = omega (arith, stride n l, rows-inside given)
 
   -- the identity's ones go wherever two places are
   pub ones-spread : {x : ℕ} {w : List ℕ} → x + 2 * m ≤ length w → Spreadable r step units 0 x w
@@ -70,8 +57,8 @@ module _ {q : Modulus} {r n : ℕ} {a b start work : List ℕ} (given : Ready q 
     target = omega (arith, diagonal-reach n (given .order-least));
   }
 
-  -- the matrix at the start of the room, and the right side's last row behind the place of the copies
-  pub room-places : {x : ℕ} {w : List ℕ} → length w ≡ length work → 4 * m ≤ x → x + m ≤ 16 * m
+  -- the matrix at the start of the room, and the right side's last row behind the places of scratch
+  pub room-places : {x : ℕ} {w : List ℕ} → length w ≡ length work → 6 * m ≤ x → x + m ≤ 16 * m
       → Places r n w 0 (x + (r - 1) * n) (3 * m)
   room-places len behind inside =
       let first = row-inside (given .order-least) in

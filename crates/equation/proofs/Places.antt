@@ -7,7 +7,8 @@ use Prim.Native.Nat.{ℕ, suc, _+_, _-_, _*_, _<_, _≤_}
 use native.Mathlib.Decide.{decLt}
 use native.Mathlib.Omega.{arith}
 use Rattle.halving.proofs.Rows.{row-end}
-use Rattle.equation.specs.Translation.{Outside, Disjoint}
+use Rattle.middle.specs.Middle.{Disjoint}
+use Rattle.equation.specs.Translation.{Outside}
 
 -- i rows of n words and k words of the next
 pub place-unique : {i u k l : ℕ} (n : ℕ) → k < n → l < n → i * n + k ≡ u * n + l → (i ≡ u) × (k ≡ l)

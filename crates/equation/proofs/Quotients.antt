@@ -5,11 +5,10 @@ use mathlib.Core.Path.{_≡_, refl, sym, ap, _∙_}
 use mathlib.Core.Logic.{⊎-elim}
 use mathlib.Core.Bool.{Bool}
 use mathlib.Core.List.{List}
-use Prim.Native.Nat.{ℕ, suc, _+_, _-_, _%_, _<_}
+use Prim.Native.Nat.{ℕ, suc, _+_, _-_, _*_, _%_, _<_}
 use native.Mathlib.Omega.{arith}
 use lib.ListN.{getD}
 use Rattle.algebra.specs.Companion.{Quotient, Companion}
-use Rattle.room.specs.Room.{wordsBack}
 use Rattle.division.specs.Division.{Divided}
 use Rattle.division.proofs.Products.{product-cong}
 use Rattle.halving.specs.Layout.{Below}
@@ -37,17 +36,13 @@ companion-same {p} em ec h = record {
 }
 
 -- residues in all words
-pub divided-below : {p : ℕ} {negate : Bool} {d : List ℕ} {x : ℕ} {num : List ℕ} {y n out back : ℕ} {w z : List ℕ}
-    → Divided p negate d x num y n out back w z → Below p w → Below p z
-divided-below {p} {n = n} {out = out} {back = back} {w = w} {z = z} h b k =
+pub divided-below : {p : ℕ} {negate : Bool} {d : List ℕ} {x : ℕ} {num : List ℕ} {y n out free : ℕ} {w z : List ℕ}
+    → Divided p negate d x num y n out free w z → Below p w → Below p z
+divided-below {p} {n = n} {out = out} {free = free} {w = w} {z = z} h b k =
     ⊎-elim
-    (λ o. ⊎-elim (λ c. rw (h .kept k o c) (b k)) (λ i. rw (i .1) at (copied (k - back) (i .0))) (in-run back n k))
+    (λ o. ⊎-elim (λ c. rw (h .kept k o c) (b k)) (λ i. rw (i .1) at (zero (k - free) (i .0))) (in-run free (3 * n) k))
     (λ i. rw (i .1) at (h .below (k - out) (i .0)))
     (in-run out n k)
   where
-    copied : (j : ℕ) → j < n → getD z (back + j) 0 < p
-    copied j l =
-        let e : n - suc (n - suc j) ≡ j = omega arith in
-        let same : wordsBack z back n (n - suc j) < p =
-        rw (h .copy (n - suc j) (omega arith)) (h .below (n - suc j) (omega arith)) in
-        rw e at same
+    zero : (j : ℕ) → j < 3 * n → getD z (free + j) 0 < p
+    zero j l = rw (h .cleared j l) (omega (arith, b 0))

@@ -3,7 +3,8 @@
 -- Assumes nothing.
 use mathlib.Core.Path.{_≡_, refl, sym, ap}
 use mathlib.Core.List.{List}
-use Prim.Native.Nat.{ℕ, _+_, _*_, _%_, _<_, _≤_}
+use Prim.Native.Nat.{ℕ, _+_, _-_, _*_, _%_, _<_, _≤_}
+use native.Mathlib.Nat.{mul-le-mul}
 use native.Mathlib.Omega.{arith}
 use lib.ListN.{length, getD}
 use Rattle.algebra.specs.Meaning.{SystemSeries}
@@ -13,12 +14,13 @@ use Rattle.algebra.proofs.Companion.{equation-of-companion}
 use Rattle.residue.specs.declared.Modulus.{Modulus}
 use Rattle.room.specs.Room.{Zeros}
 use Rattle.newton.specs.Basis.{Spreadable}
+use Rattle.halving.proofs.Rows.{rows-le}
 use Rattle.equation.specs.Translation.{coefficient, Places, Translatable}
 use Rattle.equation.specs.Equation.{Ready, Ran}
 
 module _ {q : Modulus} {r n : ℕ} {a b start work : List ℕ} (given : Ready q r n a b start work) where
-  pub ready-translatable : {w : List ℕ} {at side back : ℕ} → Zeros w → Places r n w at side back
-      → Translatable q r n a b w at side back
+  pub ready-translatable : {w : List ℕ} {at side free : ℕ} → Zeros w → Places r n w at side free
+      → Translatable q r n a b w at side free
   ready-translatable {at = at} zeros places = record {
     modulus = given .modulus;
     prime = given .prime;
@@ -35,6 +37,26 @@ module _ {q : Modulus} {r n : ℕ} {a b start work : List ℕ} (given : Ready q 
     empty = λ x l. zeros .zeros (at + x);
     below = λ k. rw (zeros .zeros k) (given .modulus .some);
   }
+
+  -- the numbers of words fit
+  pub sizes
+      : (r * r ≤ 64) × (r * n ≤ 32768) × (r * r * n ≤ 262144) × ((r + 1) * n ≤ 36864) × ((r - 1) * n ≤ 32768)
+  sizes =
+      let square : r * r ≤ 64 = mul-le-mul (given .order) (given .order) in
+      let more : r + 1 ≤ 9 = omega (arith, given .order) in
+      let less : r - 1 ≤ 8 = omega (arith, given .order) in (
+        square,
+        mul-le-mul (given .order) (given .terms),
+        mul-le-mul square (given .terms),
+        mul-le-mul more (given .terms),
+        mul-le-mul less (given .terms),
+      )
+
+  -- a row is no longer than r rows, and these no longer than a matrix
+  pub rows-inside : (n ≤ r * n) × (r * n ≤ r * r * n)
+  rows-inside =
+      let square : 1 * r ≤ r * r = rows-le r 1 r (given .order-least) in
+      (omega (arith, rows-le r 1 n (given .order-least)), rows-le (r * r) r n (omega arith))
 
   -- the start goes into the first words of r rows
   pub starts-spread : {x : ℕ} {w : List ℕ} → x + r * n ≤ length w → Spreadable r n start 0 x w

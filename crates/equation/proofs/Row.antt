@@ -18,13 +18,13 @@ use Rattle.equation.proofs.Places.{apart-of, disjoint-part}
 use Rattle.equation.proofs.Quotients.{quotient-same, divided-below}
 
 -- j quotients are written
-pub record RowTurn (p r n : ℕ) (a : List ℕ) (row back : ℕ) (w₀ w : List ℕ) (j : ℕ) : Type 0 where
+pub record RowTurn (p r n : ℕ) (a : List ℕ) (row free : ℕ) (w₀ w : List ℕ) (j : ℕ) : Type 0 where
   pub within : j ≤ r
   pub len : length w ≡ length w₀
-  pub divided : RowDivided p r n a row back j w₀ w
+  pub divided : RowDivided p r n a row free j w₀ w
 
-pub row-start : (p r n : ℕ) (a : List ℕ) (row back : ℕ) (w : List ℕ) → RowTurn p r n a row back w w 0
-row-start p r n a row back w = record {
+pub row-start : (p r n : ℕ) (a : List ℕ) (row free : ℕ) (w : List ℕ) → RowTurn p r n a row free w w 0
+row-start p r n a row free w = record {
   within = omega arith;
   len = refl;
   divided = record {
@@ -34,14 +34,14 @@ row-start p r n a row back w = record {
   };
 }
 
-module _ {q : Modulus} {lead r n : ℕ} {a w₀ w : List ℕ} {row back j : ℕ} (given : Dividable q lead r n a w₀ row back)
-    (t : RowTurn (q .p) r n a row back w₀ w j) (more : j < r)
+module _ {q : Modulus} {lead r n : ℕ} {a w₀ w : List ℕ} {row free j : ℕ} (given : Dividable q lead r n a w₀ row free)
+    (t : RowTurn (q .p) r n a row free w₀ w j) (more : j < r)
   where
     -- the quotient's place lies in the row
     entry : j * n + n ≤ r * n
     entry = row-end {i = j} {r = r} n more
 
-    pub row-divisible : Divisible q lead a (r * n) a (j * n) n w (row + j * n) back
+    pub row-divisible : Divisible q lead a (r * n) a (j * n) n w (row + j * n) free
     row-divisible = record {
       modulus = given .modulus;
       some = given .terms-least;
@@ -56,13 +56,14 @@ module _ {q : Modulus} {lead r n : ℕ} {a w₀ w : List ℕ} {row back j : ℕ}
         below = λ k l. given .below (j * n + k) (omega (arith, entry));
       };
       target = record { within = omega (arith, entry, given .target, t .len) };
-      scratch = record { within = omega (arith, given .scratch, t .len) };
-      apart = record { apart = disjoint-part (j * n) n (given .apart) entry .apart };
+      room = record { within = omega (arith, given .scratch, t .len) };
+      apart = disjoint-part (j * n) n (given .apart) entry;
+      below = t .divided .below (given .residues);
     }
 
     pub row-next : {z : List ℕ} → length z ≡ length w
-        → Divided (q .p) true a (r * n) a (j * n) n (row + j * n) back w z
-        → RowTurn (q .p) r n a row back w₀ z (j + 1)
+        → Divided (q .p) true a (r * n) a (j * n) n (row + j * n) free w z
+        → RowTurn (q .p) r n a row free w₀ z (j + 1)
     row-next {z} len h = record {
       within = omega arith;
       len = len ∙ t .len;
@@ -81,7 +82,7 @@ module _ {q : Modulus} {lead r n : ℕ} {a w₀ w : List ℕ} {row back j : ℕ}
         earlier : (o k : ℕ) → o < j → k < n → wordsFrom w (row + o * n) k ≡ wordsFrom z (row + o * n) k
         earlier o k ho hk =
             let before : o * n + n ≤ j * n = row-end {i = o} {r = j} n ho in
-            let inside : Outside back n (row + (o * n + k)) =
+            let inside : Outside free (3 * n) (row + (o * n + k)) =
             apart-of (o * n + k) (given .apart) (omega (arith, entry)) in
             let place : row + (o * n + k) ≡ row + o * n + k = omega arith in
             sym (h .kept (row + o * n + k) (inl (omega arith)) (rw place at inside))
@@ -101,6 +102,6 @@ module _ {q : Modulus} {lead r n : ℕ} {a w₀ w : List ℕ} {row back j : ℕ}
                   (t .divided .quotients o (omega arith))
             ]
 
-pub row-done : {p r n : ℕ} {a : List ℕ} {row back j : ℕ} {w₀ w : List ℕ} → RowTurn p r n a row back w₀ w j → r ≤ j
-    → RowDivided p r n a row back r w₀ w
+pub row-done : {p r n : ℕ} {a : List ℕ} {row free j : ℕ} {w₀ w : List ℕ} → RowTurn p r n a row free w₀ w j → r ≤ j
+    → RowDivided p r n a row free r w₀ w
 row-done {r = r} {j = j} t h = let e : j ≡ r = omega (arith, t .within) in rw e at (t .divided)

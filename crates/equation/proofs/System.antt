@@ -14,7 +14,7 @@ use Rattle.algebra.specs.Companion.{opposite, Quotient}
 use Rattle.residue.specs.declared.Modulus.{Modulus}
 use Rattle.inverse.specs.Inverse.{Invertible, IsInverse}
 use Rattle.room.specs.Room.{wordsFrom}
-use Rattle.matrix.specs.Layout.{Written}
+use Rattle.matrix.specs.Layout.{Below, Written}
 use Rattle.matrix.specs.Product.{firstTerms}
 use Rattle.matrix.proofs.Written.{written-below}
 use Rattle.division.specs.Division.{Divisible, Divided}
@@ -44,7 +44,7 @@ pub side-other : (w : List ℕ) (side : ℕ) {r i : ℕ} (k : ℕ) → suc i < r
 unfolding sideFrom
 side-other w side {r} {i} k l = ap (λ c. cond c (getD w (side + k) 0) 0) (ne-eqb (suc i) r (λ e. omega arith))
 
-module _ {q : Modulus} {r n : ℕ} {a b w : List ℕ} {at side back : ℕ} (given : Translatable q r n a b w at side back)
+module _ {q : Modulus} {r n : ℕ} {a b w : List ℕ} {at side free : ℕ} (given : Translatable q r n a b w at side free)
   where
     -- the first coefficient of a_r
     pub lead-inside : r * n < length a
@@ -84,10 +84,16 @@ module _ {q : Modulus} {r n : ℕ} {a b w : List ℕ} {at side back : ℕ} (give
           omega (arith, last-row {last = r - 1} {r = r} n last-suc, given .places .matrix),
         )
 
-    -- a room of the same length takes the last row, and the right side
+    -- ones among residues
+    pub ones-below : {x : ℕ} {v : List ℕ} → Written (r - 1) ((r + 1) * n) (firstTerms x 1) (spreadTerm units 0) w v
+        → Below (q .p) v
+    ones-below ones = written-below ones (λ e k. units-small (q .p) (0 + e) (given .prime .two)) (given .below)
+
+    -- a room of residues of the same length takes the last row, and the right side
     module _ {lead : ℕ} {v : List ℕ} (inverse : IsInverse (q .p) (getD a (r * n) 0) lead) (len : length v ≡ length w)
+        (below : Below (q .p) v)
       where
-        pub row-dividable : Dividable q lead r n a v (at + (r - 1) * r * n) back
+        pub row-dividable : Dividable q lead r n a v (at + (r - 1) * r * n) free
         row-dividable =
             let ends = last-row {last = r - 1} {r = r} n last-suc in
             record {
@@ -100,9 +106,10 @@ module _ {q : Modulus} {r n : ℕ} {a b w : List ℕ} {at side back : ℕ} (give
               target = omega (arith, ends, given .places .matrix);
               scratch = omega (arith, given .places .scratch);
               apart = disjoint-part ((r - 1) * r * n) (r * n) (given .places .matrix-scratch) (omega arith);
+              residues = below;
             }
 
-        pub side-divisible : Divisible q lead a (r * n) b 0 n v side back
+        pub side-divisible : Divisible q lead a (r * n) b 0 n v side free
         side-divisible = record {
           modulus = given .modulus;
           some = given .terms-least;
@@ -117,14 +124,15 @@ module _ {q : Modulus} {r n : ℕ} {a b w : List ℕ} {at side back : ℕ} (give
             below = λ k l. given .below-two (0 + k) (omega arith);
           };
           target = record { within = omega (arith, given .places .right-side) };
-          scratch = record { within = omega (arith, given .places .scratch) };
-          apart = record { apart = given .places .side-scratch .apart };
+          room = record { within = omega (arith, given .places .scratch) };
+          apart = given .places .side-scratch;
+          below = below;
         }
 
     module _ {w₁ w₂ z : List ℕ}
         (ones : Written (r - 1) ((r + 1) * n) (firstTerms (at + n) 1) (spreadTerm units 0) w w₁)
-        (row : RowDivided (q .p) r n a (at + (r - 1) * r * n) back r w₁ w₂)
-        (right : Divided (q .p) false a (r * n) b 0 n side back w₂ z) where
+        (row : RowDivided (q .p) r n a (at + (r - 1) * r * n) free r w₁ w₂)
+        (right : Divided (q .p) false a (r * n) b 0 n side free w₂ z) where
       -- a word of the matrix stays when the right side is divided
       matrix-kept : (x : ℕ) → x < r * r * n → getD z (at + x) 0 ≡ getD w₂ (at + x) 0
       matrix-kept x l =
@@ -190,7 +198,7 @@ module _ {q : Modulus} {r n : ℕ} {a b w : List ℕ} {at side back : ℕ} (give
       side-entry i e =
           quotient-same (λ k l. rw (zero-add k) refl) (λ k l. sym (side-last z side k e)) (right .quotient)
 
-      pub translated : Translated (q .p) r n a b at side back w z
+      pub translated : Translated (q .p) r n a b at side free w z
       translated = record {
         companion = record {
           next = λ i l hi. ap (λ x. x % q .p) (one i hi);
@@ -199,13 +207,12 @@ module _ {q : Modulus} {r n : ℕ} {a b w : List ℕ} {at side back : ℕ} (give
           last = last-entry;
           right = side-entry;
         };
-        below =
-            divided-below right
-            (row .below (written-below ones (λ e k. units-small (q .p) (0 + e) (given .prime .two)) (given .below)));
+        below = divided-below right (row .below (ones-below ones));
+        cleared = right .cleared;
         kept = kept;
       }
         where
-          kept : (x : ℕ) → Outside at (r * r * n) x → Outside side n x → Outside back n x
+          kept : (x : ℕ) → Outside at (r * r * n) x → Outside side n x → Outside free (3 * n) x
               → getD z x 0 ≡ getD w x 0
           kept x m s t =
               right .kept x s t

@@ -1,4 +1,4 @@
--- What the translation fixes: two rooms that its statement allows agree in every word but the scratch.
+-- What the translation fixes: two rooms that its statement allows agree in every word.
 -- Assumes nothing.
 use mathlib.Core.Path.{_≡_, sym, _∙_}
 use mathlib.Core.Logic.{⊎-elim}
@@ -10,13 +10,13 @@ use native.Mathlib.Omega.{arith}
 use lib.ListN.{getD}
 use Rattle.inverse.specs.Inverse.{IsInverse}
 use Rattle.division.proofs.Unique.{quotient-unique}
-use Rattle.equation.specs.Translation.{Outside, matrixFrom, Translated}
+use Rattle.equation.specs.Translation.{matrixFrom, Translated}
 use Rattle.equation.proofs.Places.{in-run}
 use Rattle.equation.proofs.System.{side-last}
 
-module _ {p r n : ℕ} {a b : List ℕ} {at side back lead : ℕ} {w s t : List ℕ} (some : 1 ≤ r)
-    (unit : IsInverse p (getD a (r * n) 0) lead) (f : Translated p r n a b at side back w s)
-    (g : Translated p r n a b at side back w t)
+module _ {p r n : ℕ} {a b : List ℕ} {at side free lead : ℕ} {w s t : List ℕ} (some : 1 ≤ r)
+    (unit : IsInverse p (getD a (r * n) 0) lead) (f : Translated p r n a b at side free w s)
+    (g : Translated p r n a b at side free w t)
   where
     -- residues that agree modulo p
     word-same : (x : ℕ) → getD s x 0 % p ≡ getD t x 0 % p → getD s x 0 ≡ getD t x 0
@@ -73,10 +73,11 @@ module _ {p r n : ℕ} {a b : List ℕ} {at side back lead : ℕ} {w s t : List 
         positive zero h = absurd (omega (arith, N.mul-zero (r * r)))
         positive (suc n) h = omega arith
 
-    pub translated-unique : (x : ℕ) → Outside back n x → getD s x 0 ≡ getD t x 0
-    translated-unique x o =
+    pub translated-unique : (x : ℕ) → getD s x 0 ≡ getD t x 0
+    translated-unique x =
         ⊎-elim
-        (λ m. ⊎-elim (λ c. f .kept x m c o ∙ sym (g .kept x m c o))
+        (λ m. ⊎-elim (λ c. ⊎-elim (λ o. f .kept x m c o ∙ sym (g .kept x m c o))
+        (λ i. rw (i .1) at (f .cleared (x - free) (i .0) ∙ sym (g .cleared (x - free) (i .0)))) (in-run free (3 * n) x))
         (λ i. rw (i .1) at (side-same (x - side) (i .0))) (in-run side n x))
         (λ i. rw (i .1) at (matrix-same (x - at) (i .0)))
         (in-run at (r * r * n) x)

@@ -14,7 +14,7 @@ ghost use Rattle.equation.specs.Translation.{Dividable, RowDivided, Tran
 ghost use Rattle.equation.specs.Equation.{Ready, Ran, Placed};
 
 // Writes the quotients of -a_0, .., -a_(r-1) by a_r to the words of w from `row` on, n words for each. `lead` is the
-// inverse of the first coefficient of a_r, and the n words from `back` on are scratch.
+// inverse of the first coefficient of a_r, and the 3 * n words from `free` on are scratch.
 fn divide_row(
     q: Modulus,
     lead: u32,
@@ -23,14 +23,14 @@ fn divide_row(
     a: &[u32],
     w: &mut [u32],
     row: usize,
-    back: usize,
+    free: usize,
 )
-    requires { ⌜ Dividable q lead r n (now a) (now w) row back ⌝ }
-    ensures { λ _. ⌜ RowDivided (q .p) r n (now (a .entry)) row back r (now (w .entry)) (now (w .exit)) ⌝ }
+    requires { ⌜ Dividable q lead r n (now a) (now w) row free ⌝ }
+    ensures { λ _. ⌜ RowDivided (q .p) r n (now (a .entry)) row free r (now (w .entry)) (now (w .exit)) ⌝ }
 {
     let mut j = 0;
     while j < r {
-        division::divide(q, lead, true, a, r * n, a, j * n, n, w, row + j * n, back);
+        division::divide(q, lead, true, a, r * n, a, j * n, n, w, row + j * n, free);
         j += 1;
     }
 }
@@ -38,7 +38,7 @@ fn divide_row(
 // Writes the system of an equation into the room w: its matrix from word `at` on, entry by entry, where zeros stand,
 // and the last row of its right side, b / a_r, from word `side` on. Row i but the last says that the derivative of the
 // unknown i is the unknown i + 1: its one entry that is not 0 is a 1 in column i + 1. The last row's entries are
-// -a_0 / a_r, .., -a_(r-1) / a_r. The n words from `back` on are scratch.
+// -a_0 / a_r, .., -a_(r-1) / a_r. The 3 * n words from `free` on are scratch, and are cleared.
 pub fn translate(
     q: Modulus,
     r: usize,
@@ -48,18 +48,18 @@ pub fn translate(
     w: &mut [u32],
     at: usize,
     side: usize,
-    back: usize,
+    free: usize,
 )
-    requires { ⌜ Translatable q r n (now a) (now b) (now w) at side back ⌝ }
-    ensures { λ _. ⌜ Translated (q .p) r n (now (a .entry)) (now (b .entry)) at side back
+    requires { ⌜ Translatable q r n (now a) (now b) (now w) at side free ⌝ }
+    ensures { λ _. ⌜ Translated (q .p) r n (now (a .entry)) (now (b .entry)) at side free
         (now (w .entry)) (now (w .exit)) ⌝ }
 {
     let last = r - 1;
     let ones = [1u32; 8];
     let lead = inverse::invert(a[r * n], q.p as u32);
     newton::spread(last, (r + 1) * n, &ones, 0, at + n, w);
-    divide_row(q, lead, r, n, a, w, at + last * r * n, back);
-    division::divide(q, lead, false, a, r * n, b, 0, n, w, side, back);
+    divide_row(q, lead, r, n, a, w, at + last * r * n, free);
+    division::divide(q, lead, false, a, r * n, b, 0, n, w, side, free);
 }
 
 // Hands the n words from `from` on over to y, and clears the room that they stand in.
@@ -88,26 +88,17 @@ fn run_halving(
     ensures { λ _. ⌜ Ran (q .p) r n (now (a .entry)) (now (b .entry)) (now (start .entry))
         (now (y .exit)) (now (work .exit)) ⌝ }
 {
+    let m = r * r * n;
     room::clear(work);
-    translate(
-        q,
-        r,
-        n,
-        a,
-        b,
-        work,
-        (3 * r + 1) * n,
-        (r - 1) * n + 1,
-        2 * r * n,
-    );
+    translate(q, r, n, a, b, work, (3 * r + 1) * n, (r - 1) * n + 1, 8 * m);
     newton::spread(r, n, start, 0, 0, work);
     halving::solve_rows(q, r, n, work);
     hand_over(n, r * n, y, work);
 }
 
 // Puts the system of an accepted equation into the room of the Newton solver: its matrix, the identity as the first
-// term of Y and of Z, b / a_r as the last row of the right side, and the start. The translation's scratch is the place
-// where the solver makes copies.
+// term of Y and of Z, b / a_r as the last row of the right side, and the start. The translation's scratch starts at
+// the place where the solver makes copies.
 fn place(q: Modulus, r: usize, n: usize, a: &[u32], b: &[u32], start: &[u32], w: &mut [u32])
     requires { ⌜ Ready q r n (now a) (now b) (now start) (now w) ⌝ }
     ensures { λ _. ⌜ Placed q r n (now (a .entry)) (now (b .entry)) (now (start .entry)) (now (w .exit)) ⌝ }

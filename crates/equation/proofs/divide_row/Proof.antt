@@ -10,10 +10,10 @@ use Rattle.equation.proofs.divide_row.Statement.{statement}
 use Rattle.equation.proofs.divide_row.Tie as tie
 
 abbrev Inv-loop : tie.InvT-loop
-Inv-loop q lead r n a w₀ row back j₀ w j = RowTurn (q .p) r n a row back w₀ w j
+Inv-loop q lead r n a w₀ row free j₀ w j = RowTurn (q .p) r n a row free w₀ w j
 
 abbrev μ-loop : tie.MeasureT-loop
-μ-loop q lead r n a w₀ row back j₀ w j = r - j
+μ-loop q lead r n a w₀ row free j₀ w j = r - j
 
 loop-holds : tie.Need-loop-holds Inv-loop μ-loop
 loop-holds c = row-start _ _ _ _ _ _ _
@@ -23,7 +23,7 @@ operands : (c : tie.In-loop Inv-loop μ-loop)
     → let s = c .before .before .before .before .args in
     let j = c .before .loop .j in
     Divisible (s .q) (s .lead) (s .a .now) (s .r * s .n) (s .a .now) (j * s .n) (s .n) (c .before .loop .w)
-    (s .row + j * s .n) (s .back)
+    (s .row + j * s .n) (s .free)
 operands c = row-divisible (c .before .before .before .before .pre) (c .before .loop .inv) (c .loop-test .taken)
 
 mul-divide : tie.Need-mul-divide Inv-loop μ-loop

@@ -4,8 +4,8 @@
 use native.Mathlib.Omega.{arith}
 use borrow.Author.Needs.{needs}
 use Rattle.equation.specs.Equation.{Ready}
-use Rattle.equation.proofs.Rooms.{ready-translatable, starts-spread}
-use Rattle.equation.proofs.Newton.{sizes, rows-inside, room-places, ones-spread, placed}
+use Rattle.equation.proofs.Rooms.{sizes, rows-inside, ready-translatable, starts-spread}
+use Rattle.equation.proofs.Newton.{room-places, ones-spread, placed}
 use Rattle.equation.proofs.place.Statement.{statement}
 use Rattle.equation.proofs.place.Tie as tie
 

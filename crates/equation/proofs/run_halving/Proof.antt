@@ -8,8 +8,8 @@ use borrow.Author.Needs.{needs}
 use lib.ListN.{length}
 use Rattle.matrix.proofs.Written.{written-below}
 use Rattle.equation.specs.Equation.{Ready}
-use Rattle.equation.proofs.Rooms.{ready-translatable, starts-spread}
-use Rattle.equation.proofs.Halving.{rows-small, used, room-places, answer-inside, ready-solvable, ran}
+use Rattle.equation.proofs.Rooms.{sizes, rows-inside, ready-translatable, starts-spread}
+use Rattle.equation.proofs.Halving.{room-places, answer-inside, ready-solvable, ran}
 use Rattle.equation.proofs.run_halving.Statement.{statement}
 use Rattle.equation.proofs.run_halving.Tie as tie
 
@@ -34,6 +34,12 @@ translated c = c .before .before .before .before
 abbrev started : tie.After-solve-rows → tie.After-spread
 started c = c .before .before .before .before
 
+mul-m : tie.Need-mul-m
+mul-m c = omega (arith, sizes (c .before .before .before .before .before .pre .0))
+
+mul-m-2 : tie.Need-mul-m-2
+mul-m-2 c = search needs
+
 clear-requires : tie.Need-clear-requires
 clear-requires c κs = search needs
 
@@ -50,16 +56,13 @@ sub-translate : tie.Need-sub-translate
 sub-translate c = search needs
 
 mul-translate-3 : tie.Need-mul-translate-3
-mul-translate-3 c = omega (arith, rows-small (given (c .before .before .before)))
+mul-translate-3 c = omega (arith, sizes (given (c .before .before .before)))
 
 add-translate-2 : tie.Need-add-translate-2
-add-translate-2 c = omega (arith, rows-small (given (c .before .before .before)))
+add-translate-2 c = omega (arith, sizes (given (c .before .before .before)))
 
 mul-translate-4 : tie.Need-mul-translate-4
 mul-translate-4 c = search needs
-
-mul-translate-5 : tie.Need-mul-translate-5
-mul-translate-5 c = search needs
 
 translate-requires : tie.Need-translate-requires
 translate-requires c κs =
@@ -72,7 +75,8 @@ spread-requires c κs =
     let system = c .before .before .before in
     let zeros = cleared system in
     let len = zeros .clear .kept .0 in
-    let room = used (given zeros) in
+    let rows = rows-inside (given zeros) in
+    let room = given zeros .room in
     starts-spread (given zeros)
     (omega (arith, given zeros .terms-least, system .translate .kept .1 .1 .1 .1 .1 .0))
 
@@ -88,7 +92,7 @@ solve-rows-requires c κs =
     (system .translate .ensures .below))
 
 mul-hand-over : tie.Need-mul-hand-over
-mul-hand-over c = omega (arith, rows-small (given (cleared (translated (started (c .before .before))))))
+mul-hand-over c = omega (arith, sizes (given (cleared (translated (started (c .before .before))))))
 
 hand-over-requires : tie.Need-hand-over-requires
 hand-over-requires c κs =
@@ -121,6 +125,8 @@ pub run-halving-spec : {M : Type 1} → statement M
 run-halving-spec =
     tie.close
     (tie.spec
+    mul-m
+    mul-m-2
     clear-requires
     mul-translate
     add-translate
@@ -129,7 +135,6 @@ run-halving-spec =
     mul-translate-3
     add-translate-2
     mul-translate-4
-    mul-translate-5
     translate-requires
     spread-requires
     solve-rows-requires

@@ -3,7 +3,8 @@
 -- Assumes nothing.
 use native.Mathlib.Omega.{arith}
 use borrow.Author.Needs.{needs}
-use Rattle.equation.proofs.Newton.{sizes, answer-inside, newton-ran}
+use Rattle.equation.proofs.Rooms.{sizes}
+use Rattle.equation.proofs.Newton.{answer-inside, newton-ran}
 use Rattle.equation.proofs.run_newton.Statement.{statement}
 use Rattle.equation.proofs.run_newton.Tie as tie
 

@@ -9,6 +9,7 @@ use Rattle.equation.specs.Translation.{Translatable}
 use Rattle.equation.proofs.System.{
   lead-invertible,
   ones-spread,
+  ones-below,
   row-inside,
   row-dividable,
   side-divisible,
@@ -27,7 +28,7 @@ known c = c .before .before .before .before .before .before .before
 -- what is given
 abbrev given : (c : tie.After-struct-known)
     → let s = entry c .args in
-    Translatable (s .q) (s .r) (s .n) (s .a .now) (s .b .now) (s .w .now) (s .at) (s .side) (s .back)
+    Translatable (s .q) (s .r) (s .n) (s .a .now) (s .b .now) (s .w .now) (s .at) (s .side) (s .free)
 given c = entry c .pre
 
 -- where the last row starts
@@ -81,8 +82,9 @@ add-divide-row c = omega (arith, row-start c)
 divide-row-requires : tie.Need-divide-row-requires
 divide-row-requires c κs =
     let ones = c .before .before .before in
-    row-dividable (given (ones .before .before .before .before)) (ones .before .before .before .invert .ensures)
-    (ones .spread .kept .1 .1 .1 .1 .1 .0)
+    let start = given (ones .before .before .before .before) in
+    row-dividable start (ones .before .before .before .invert .ensures) (ones .spread .kept .1 .1 .1 .1 .1 .0)
+    (ones-below start (ones .spread .ensures))
 
 mul-divide : tie.Need-mul-divide
 mul-divide c = search needs
@@ -91,8 +93,10 @@ divide-requires : tie.Need-divide-requires
 divide-requires c κs =
     let rows = c .before .before .before in
     let ones = rows .before .before .before .before in
-    side-divisible (given (ones .before .before .before .before)) (ones .before .before .before .invert .ensures)
+    let start = given (ones .before .before .before .before) in
+    side-divisible start (ones .before .before .before .invert .ensures)
     (rows .divide-row .kept .1 .1 .1 .1 .1 .0 ∙ ones .spread .kept .1 .1 .1 .1 .1 .0)
+    (rows .divide-row .ensures .below (ones-below start (ones .spread .ensures)))
 
 same-length : tie.Need-same-length
 same-length c = search needs
