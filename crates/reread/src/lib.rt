@@ -145,6 +145,9 @@ pub fn read_result(s: &[u8], one: &mut [u32], two: &mut [u32]) -> Reading
     if two.len() != 2048 {
         return Reading::Refused(Answer::Length { buffer: 2 });
     }
+    if s.len() > 65536 {
+        return Reading::Refused(Answer::Large);
+    }
     match sheet::begin(s, open_result(s)) {
         Start::At(h, c) => take_result(s, h, c, one, two),
         Start::Stop(answer) => answer,

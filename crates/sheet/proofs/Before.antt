@@ -139,33 +139,31 @@ module _ {forms : Header → List Form} {lead : Kind → List ℕ} (led : Led fo
       limits-done : a ≡ Done → Started forms lead s (start.At h c)
       limits-done e = record { opens = o; says = opens-say done (judged-done j e) }
 
--- bytes, line 1, limits, for every sort
-module _ {s : List ℕ} where
-  pub start-large : 65536 < length s → (o : Opening) → Starting s o (start.Stop (Refused Large))
-  unfolding openRules readVerdict verdictOf
-  start-large h o = record {
-    started = λ forms lead led x. ((λ e. refused-not-done 10 0 0 e), λ g l. says-here _ _ h);
+-- too many bytes
+pub start-large : {forms : Header → List Form} (lead : Kind → List ℕ) {s : List ℕ} → 65536 < length s
+    → Started forms lead s (start.Stop (Refused Large))
+unfolding openRules readVerdict verdictOf
+start-large lead h = ((λ e. refused-not-done 10 0 0 e), λ g l. says-here _ _ h)
+
+-- line 1, limits, for every sort
+module _ {s : List ℕ} (short : length s ≤ 65536) where
+  pub start-broken : {o : Opening} → o ≡ opening.Not → Starting s o (start.Stop (Broken 1))
+  unfolding openRules readVerdict
+  start-broken e = record {
+    started = λ forms lead led x. (
+      (λ q. refused-not-done 9 1 0 q),
+      λ g l. says-past _ _ _ (λ q. omega arith)
+          (says-here _ _ (subst (λ (y : Opening). Opened forms lead s y) e x g)),
+    );
   }
 
-  module _ (short : length s ≤ 65536) where
-    pub start-broken : {o : Opening} → o ≡ opening.Not → Starting s o (start.Stop (Broken 1))
-    unfolding openRules readVerdict
-    start-broken e = record {
-      started = λ forms lead led x. (
-        (λ q. refused-not-done 9 1 0 q),
-        λ g l. says-past _ _ _ (λ q. omega arith)
-            (says-here _ _ (subst (λ (y : Opening). Opened forms lead s y) e x g)),
-      );
-    }
+  module _ {h : Header} {c : Cursor} {o : Opening} (e : o ≡ opening.Is h c) {a : Answer}
+      (j : Judged (limitRules (h .r) (h .n) (h .p) ++ sizeRules bytes (h .r) (h .n)) a) where
+    found : (forms : Header → List Form) (lead : Kind → List ℕ) → Opened forms lead s o → Opens (lead (h .kind)) s h c
+    found forms lead x = subst (λ (y : Opening). Opened forms lead s y) e x
 
-    module _ {h : Header} {c : Cursor} {o : Opening} (e : o ≡ opening.Is h c) {a : Answer}
-        (j : Judged (limitRules (h .r) (h .n) (h .p) ++ sizeRules bytes (h .r) (h .n)) a) where
-      found : (forms : Header → List Form) (lead : Kind → List ℕ) → Opened forms lead s o → Opens (lead (h .kind)) s h c
-      found forms lead x = subst (λ (y : Opening). Opened forms lead s y) e x
+    pub start-limits : OtherThanDone a → Starting s o (start.Stop (Refused a))
+    start-limits k = record { started = λ forms lead led x. limits-stop led s short (found forms lead x) j k }
 
-      pub start-limits : OtherThanDone a → Starting s o (start.Stop (Refused a))
-      start-limits k =
-          record { started = λ forms lead led x. limits-stop led s short (found forms lead x) j k }
-
-      pub start-at : a ≡ Done → Starting s o (start.At h c)
-      start-at d = record { started = λ forms lead led x. limits-done led s short (found forms lead x) j d }
+    pub start-at : a ≡ Done → Starting s o (start.At h c)
+    start-at d = record { started = λ forms lead led x. limits-done led s short (found forms lead x) j d }

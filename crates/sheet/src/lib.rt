@@ -64,13 +64,11 @@ fn open_job(s: &[u8]) -> Opening
     header::open_as(s, Kind::Equation, b"equation")
 }
 
-// 10 for bytes, 9 for line 1, 1 to 4, and 10 for r*r*N, where line 1 is what the opening says.
+// 9 for line 1, 1 to 4, and 10 for r*r*N, where line 1 is what the opening says.
 pub fn begin(s: &[u8], opening: Opening) -> Start
+    requires { ⌜ length (now s) ≤ 65536 ⌝ }
     ensures { λ r. ⌜ Starting (now (s .entry)) opening r ⌝ }
 {
-    if s.len() > 65536 {
-        return Start::Stop(Reading::Refused(Answer::Large));
-    }
     let Opening::Is(h, c) = opening else {
         return Start::Stop(Reading::Broken(1));
     };
@@ -203,6 +201,9 @@ pub fn read_job(s: &[u8], one: &mut [u32], two: &mut [u32], three: &mut [u32]) -
     let Answer::Done = rooms else {
         return Reading::Refused(rooms);
     };
+    if s.len() > 65536 {
+        return Reading::Refused(Answer::Large);
+    }
     match begin(s, open_job(s)) {
         Start::At(h, c) => take_job(s, h, c, one, two, three),
         Start::Stop(answer) => answer,

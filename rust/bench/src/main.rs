@@ -8,6 +8,7 @@ mod flint;
 mod halving;
 mod naive;
 mod newton;
+mod sheets;
 mod sums;
 mod translation;
 mod turns;
@@ -31,13 +32,14 @@ fn random_words(seed: &mut u64, count: usize) -> Vec<u32> {
 
 /// Prints the tables that are named, or all.
 fn main() {
-    let tables: [(&str, fn()); 6] = [
+    let tables: [(&str, fn()); 7] = [
         ("halving", halving::systems),
         ("systems", newton::systems),
         ("bases", newton::bases),
         ("equations", equation::equations),
         ("translation", translation::translations),
         ("short", bytes::short_jobs),
+        ("sheets", sheets::sheets),
     ];
     let chosen: Vec<String> = std::env::args().skip(1).collect();
     for (name, print) in tables {

@@ -1,10 +1,11 @@
--- `reread::read_result` meets its contract: the rooms, then line 1 and its limits, then the lines.
+-- `reread::read_result` meets its contract: the rooms, then the bytes, then line 1 and its limits, then the lines.
 -- Assumes nothing.
 use mathlib.Core.List.{[], _∷_}
 use borrow.Author.Needs.{needs}
 use Rattle.job.specs.Refusal.{done, Says}
 use Rattle.sheet.specs.Rules.{roomRules}
 use Rattle.sheet.specs.Parts.{Started}
+use Rattle.sheet.proofs.Before.{start-large}
 use Rattle.sheet.proofs.Outcomes.{outcome-rooms, outcome-stop, outcome-taken}
 use Rattle.result.specs.ResultSheet.{resultWords, resultForms}
 use Rattle.reread.proofs.Results.{result-led, room-first, room-second, rooms-done, room-refused}
@@ -21,15 +22,6 @@ returns-2 c =
     let a = c .before .before .before .before .before .args in
     outcome-rooms (room-refused 2) (room-second (a .one .now) (a .two .now) (c .before .if1 .left) (c .if2 .taken))
 
-open-result-requires : tie.Need-open-result-requires
-open-result-requires c κs = search needs
-
-begin-requires : tie.Need-begin-requires
-begin-requires c κs = search needs
-
-enum-known-h : tie.Need-enum-known-h
-enum-known-h c = search needs
-
 -- no room is refused
 no-room
     : (c : tie.Else2) →
@@ -39,10 +31,23 @@ no-room c =
     let a = c .before .before .before .before .before .args in
     rooms-done (a .one .now) (a .two .now) (c .before .if1 .left) (c .if2 .left)
 
+returns-3 : tie.Need-returns-3
+returns-3 c = outcome-stop resultWords (no-room (c .before)) (start-large resultWords (c .if3 .taken))
+
+open-result-requires : tie.Need-open-result-requires
+open-result-requires c κs = search needs
+
+begin-requires : tie.Need-begin-requires
+begin-requires c κs = c .before .if3 .left
+
+enum-known-h : tie.Need-enum-known-h
+enum-known-h c = search needs
+
 -- what line 1 and its limits say
 begun
     : (c : tie.After-begin) →
-    let a = c .before .before .before .before .before .before .before .args in
+    let r = c .before .before .before in
+    let a = r .before .before .before .before .before .args in
     Started resultForms resultWords (a .s .now) (c .begin .result)
 begun c = c .begin .ensures .started resultForms resultWords result-led (c .before .open-result .ensures)
 
@@ -50,7 +55,7 @@ take-result-requires : tie.Need-take-result-requires
 take-result-requires c κs =
     let found = c .before .before .before in
     let start = found .before .before in
-    let rooms = start .before .before in
+    let rooms = start .before .before .before in
     (rw (found .h .given .1) at (begun start), record { first = rooms .before .if1 .left; second = rooms .if2 .left })
 
 enum-known-answer : tie.Need-enum-known-answer
@@ -62,19 +67,19 @@ same-length c = search needs
 same-length-2 : tie.Need-same-length-2
 same-length-2 c = search needs
 
-returns-3 : tie.Need-returns-3
-returns-3 c =
+returns-4 : tie.Need-returns-4
+returns-4 c =
     let take = c .before .before .before .before in
     let found = take .before .before .before .before in
     let start = found .before .before in
-    outcome-taken resultWords (no-room (start .before .before)) result-led (rw (found .h .given .1) at (begun start))
-    (take .take-result .ensures)
+    outcome-taken resultWords (no-room (start .before .before .before)) result-led
+    (rw (found .h .given .1) at (begun start)) (take .take-result .ensures)
 
-returns-4 : tie.Need-returns-4
-returns-4 c =
+returns-5 : tie.Need-returns-5
+returns-5 c =
     let found = c .before in
     let start = found .before .before in
-    outcome-stop resultWords (no-room (start .before .before)) (rw (found .answer .given .1) at (begun start))
+    outcome-stop resultWords (no-room (start .before .before .before)) (rw (found .answer .given .1) at (begun start))
 
 pub read-result-spec : {M : Type 1} → statement M
 read-result-spec =
@@ -82,6 +87,7 @@ read-result-spec =
     (tie.spec
     returns
     returns-2
+    returns-3
     open-result-requires
     begin-requires
     enum-known-h
@@ -89,5 +95,5 @@ read-result-spec =
     enum-known-answer
     same-length
     same-length-2
-    returns-3
-    returns-4)
+    returns-4
+    returns-5)

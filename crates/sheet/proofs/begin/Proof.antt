@@ -1,12 +1,9 @@
--- `sheet::begin` meets its contract: bytes, line 1, limits, in that order.
+-- `sheet::begin` meets its contract: line 1, then its limits.
 -- Assumes nothing.
 use borrow.Author.Needs.{needs}
-use Rattle.sheet.proofs.Before.{start-large, start-broken, start-limits, start-at}
+use Rattle.sheet.proofs.Before.{start-broken, start-limits, start-at}
 use Rattle.sheet.proofs.begin.Statement.{statement}
 use Rattle.sheet.proofs.begin.Tie as tie
-
-returns : tie.Need-returns
-returns c = start-large (c .if1 .taken) (c .before .before .args .opening)
 
 enum-known-opening : tie.Need-enum-known-opening
 enum-known-opening c = search needs
@@ -14,8 +11,8 @@ enum-known-opening c = search needs
 enum-told : tie.Need-enum-told
 enum-told c = search needs
 
-returns-2 : tie.Need-returns-2
-returns-2 c = start-broken (c .before .before .if1 .left) (c .enum-told .given .1)
+returns : tie.Need-returns
+returns c = start-broken (c .before .before .before .pre) (c .enum-told .given .1)
 
 check-small-requires : tie.Need-check-small-requires
 check-small-requires c κs = search needs
@@ -23,21 +20,20 @@ check-small-requires c κs = search needs
 enum-told-2 : tie.Need-enum-told-2
 enum-told-2 c = search needs
 
-returns-3 : tie.Need-returns-3
-returns-3 c =
+returns-2 : tie.Need-returns-2
+returns-2 c =
     let a = c .before in
     let found = a .before .before in
     let limits = a .check-small .ensures in
-    start-limits (found .before .before .if1 .left) (found .opening .given .1) limits (c .match2 .keys2)
+    start-limits (found .before .before .before .pre) (found .opening .given .1) limits (c .match2 .keys2)
 
-returns-4 : tie.Need-returns-4
-returns-4 c =
+returns-3 : tie.Need-returns-3
+returns-3 c =
     let a = c .before .before in
     let found = a .before .before in
     let limits = a .check-small .ensures in
-    start-at (found .before .before .if1 .left) (found .opening .given .1) limits (c .enum-told2 .given .1)
+    start-at (found .before .before .before .pre) (found .opening .given .1) limits (c .enum-told2 .given .1)
 
 pub begin-spec : {M : Type 1} → statement M
 begin-spec =
-    tie.close
-    (tie.spec returns enum-known-opening enum-told returns-2 check-small-requires enum-told-2 returns-3 returns-4)
+    tie.close (tie.spec enum-known-opening enum-told returns check-small-requires enum-told-2 returns-2 returns-3)

@@ -1,4 +1,4 @@
--- `sheet::read_job` meets its contract: the rooms, then line 1 and its limits, then the lines.
+-- `sheet::read_job` meets its contract: the rooms, then the bytes, then line 1 and its limits, then the lines.
 -- Assumes nothing.
 use mathlib.Core.Path.{refl}
 use mathlib.Core.List.{[], _∷_}
@@ -9,7 +9,7 @@ use Rattle.header.specs.Header.{wordOf}
 use Rattle.sheet.specs.JobSheet.{jobForms}
 use Rattle.sheet.specs.Rules.{roomRules}
 use Rattle.sheet.specs.Parts.{Started}
-use Rattle.sheet.proofs.Before.{rooms-roomy}
+use Rattle.sheet.proofs.Before.{rooms-roomy, start-large}
 use Rattle.sheet.proofs.Outcomes.{job-led, outcome-rooms, outcome-stop, outcome-taken}
 use Rattle.sheet.proofs.read_job.Statement.{statement}
 use Rattle.sheet.proofs.read_job.Tie as tie
@@ -27,15 +27,6 @@ returns c =
     outcome-rooms (answer-other (r .result) (c .match .keys2))
     (r .ensures .says _ (a .one .now) (a .two .now) (a .three .now) refl refl refl refl)
 
-open-job-requires : tie.Need-open-job-requires
-open-job-requires c κs = search needs
-
-begin-requires : tie.Need-begin-requires
-begin-requires c κs = search needs
-
-enum-known-h : tie.Need-enum-known-h
-enum-known-h c = search needs
-
 -- no room is refused
 rooms-done
     : (c : tie.After-enum-told) →
@@ -48,10 +39,22 @@ rooms-done c =
     let checked = rw (c .enum-told .given .1) at (r .check-rooms .ensures) in
     checked .says _ (a .one .now) (a .two .now) (a .three .now) refl refl refl refl
 
+returns-2 : tie.Need-returns-2
+returns-2 c = outcome-stop wordOf (rooms-done (c .before)) (start-large wordOf (c .if1 .taken))
+
+open-job-requires : tie.Need-open-job-requires
+open-job-requires c κs = search needs
+
+begin-requires : tie.Need-begin-requires
+begin-requires c κs = c .before .if1 .left
+
+enum-known-h : tie.Need-enum-known-h
+enum-known-h c = search needs
+
 -- what line 1 and its limits say
 begun
     : (c : tie.After-begin) →
-    let r = c .before .before in
+    let r = c .before .before .before in
     let a = r .before .before .before .before .before .before .before .args in
     Started jobForms wordOf (a .s .now) (c .begin .result)
 begun c = c .begin .ensures .started jobForms wordOf job-led (c .before .open-job .ensures)
@@ -60,7 +63,7 @@ take-job-requires : tie.Need-take-job-requires
 take-job-requires c κs =
     let found = c .before .before .before .before in
     let start = found .before .before in
-    let r = start .before .before in
+    let r = start .before .before .before in
     let a = r .before .before .before .before .before .before .before .args in (
       rw (found .h .given .1) at (begun start),
       rooms-roomy (a .one .now) (a .two .now) (a .three .now) (rooms-done r),
@@ -78,19 +81,20 @@ same-length-2 c = search needs
 same-length-3 : tie.Need-same-length-3
 same-length-3 c = search needs
 
-returns-2 : tie.Need-returns-2
-returns-2 c =
+returns-3 : tie.Need-returns-3
+returns-3 c =
     let take = c .before .before .before .before .before .before in
     let found = take .before .before .before .before .before in
     let start = found .before .before in
-    outcome-taken wordOf (rooms-done (start .before .before)) job-led (rw (found .h .given .1) at (begun start))
-    (take .take-job .ensures)
+    let r = start .before .before .before in
+    outcome-taken wordOf (rooms-done r) job-led (rw (found .h .given .1) at (begun start)) (take .take-job .ensures)
 
-returns-3 : tie.Need-returns-3
-returns-3 c =
+returns-4 : tie.Need-returns-4
+returns-4 c =
     let found = c .before in
     let start = found .before .before in
-    outcome-stop wordOf (rooms-done (start .before .before)) (rw (found .answer .given .1) at (begun start))
+    let r = start .before .before .before in
+    outcome-stop wordOf (rooms-done r) (rw (found .answer .given .1) at (begun start))
 
 pub read-job-spec : {M : Type 1} → statement M
 read-job-spec =
@@ -99,6 +103,7 @@ read-job-spec =
     check-rooms-requires
     enum-told
     returns
+    returns-2
     open-job-requires
     begin-requires
     enum-known-h
@@ -107,5 +112,5 @@ read-job-spec =
     same-length
     same-length-2
     same-length-3
-    returns-2
-    returns-3)
+    returns-3
+    returns-4)
