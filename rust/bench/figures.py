@@ -16,8 +16,8 @@ MARKS = {"1": "circle", "2": "square", "4": "diamond", "8": "triangle"}
 PANELS = [
     ("System by halving", "call/N1", "System by halving / naive, conditional subtraction", []),
     ("System by halving", "call/N2", "System by halving / naive, same sums", []),
-    ("Basis with its inverse", "library/naive", "Basis / naive, same sums", [(1024, 4096, 1.4)]),
-    ("Basis with its inverse", "library/FLINT", "Basis / Newton over FLINT", [(64, 1024, 0.5), (4096, 4096, 1.0)]),
+    ("Basis with its inverse", "solve/naive", "Basis / naive, same sums", [(1024, 4096, 1.4)]),
+    ("Basis with its inverse", "solve/FLINT", "Basis / Newton over FLINT", [(64, 1024, 0.5), (4096, 4096, 1.0)]),
     ("Equation", "halving/naive", "Equation by halving / naive, same sums", []),
     ("System, both methods", "Newton/halving", "System by Newton / by halving", []),
 ]

@@ -1,3 +1,4 @@
 pub mod Totals
 pub mod Sizes
 pub mod Waits
+pub mod Behind

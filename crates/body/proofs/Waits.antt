@@ -1,8 +1,8 @@
 -- Reading the lines behind line 1: what each step wants of the buffer, and where the numbers of each block begin.
 -- Assumes nothing.
-use mathlib.Core.Path.{_≡_, _∙_}
+use mathlib.Core.Path.{_≡_, refl, _∙_}
 use mathlib.Core.List.{List, [], _∷_, _++_}
-use Prim.Native.Nat.{ℕ, _+_, _*_, _≤_}
+use Prim.Native.Nat.{ℕ, _+_, _*_, _≤_, _<_}
 use native.Mathlib.Omega.{arith}
 use lib.IntN.{ℤ}
 use lib.ListN.{length}
@@ -14,11 +14,13 @@ use Rattle.text.proofs.Lines.{total-append}
 use Rattle.cursor.specs.declared.Cursor.{Cursor}
 use Rattle.lines.specs.declared.Numbers.{Numbers}
 use Rattle.lines.specs.Forms.{rowForms, matrixForms}
-use Rattle.lines.specs.Steps.{formOf, Placed, Ready}
+use Rattle.lines.specs.declared.Step.{Step}
+use Rattle.lines.specs.declared.Step.the-variants as step
+use Rattle.lines.specs.Steps.{formOf, Placed, Ready, Read}
 use Rattle.lines.proofs.Forms.{total-rows, total-matrix}
 use Rattle.body.specs.declared.Lengths.{Lengths}
 use Rattle.body.specs.JobLines.{readLengths}
-use Rattle.body.specs.Parts.{Waiting}
+use Rattle.body.specs.Parts.{Waiting, Reached}
 use Rattle.body.proofs.Sizes.{Fits, lengths-fit}
 
 module _ {kind : Kind} {r : ℕ} {x y : Numbers} {l : Lengths} {s : List ℕ} {c : Cursor} {w : List ℤ}
@@ -36,7 +38,7 @@ module _ {kind : Kind} {r : ℕ} {x y : Numbers} {l : Lengths} {s : List ℕ} {c
     room = omega (arith, q .room, fits .all);
   }
 
-  pub values-ready : {d : Cursor} {v : List ℤ} (i : ℕ) → Placed s d → length v ≡ length w
+  values-ready : {d : Cursor} {v : List ℤ} (i : ℕ) → Placed s d → length v ≡ length w
       → i ≤ l .one + l .two + l .three → Ready s d y i v
   values-ready i p e h = record {
     placed = p;
@@ -44,6 +46,25 @@ module _ {kind : Kind} {r : ℕ} {x y : Numbers} {l : Lengths} {s : List ℕ} {c
     high = q .ranges .3;
     room = omega (arith, q .room, fits .all);
   }
+
+  -- what reading the entries of A wants
+  pub entries-asked : l .one ≡ r * (r * x .count)
+      → Ready s c x (0 + r * (r * x .count)) w × (c .field ≡ 0) × (0 < r) × (r < 10) × (r < 10)
+  entries-asked e =
+      let m = q .small in
+      let ready = series-ready (0 + r * (r * x .count)) (q .placed) refl (omega arith) in
+      (ready, q .field, m .order-least, omega (arith, m .order), omega (arith, m .order))
+
+  -- the same behind lines that were read, or not
+  pub series-reached : (fs : List Form) (v : List ℤ) (t : Step) (i : ℕ) → Read s c fs 0 w v t
+      → i ≤ l .one + l .two + l .three → Reached s t x i v
+  series-reached fs v (step.Next d) i p h = (series-ready i (p .placed) (p .long) h, p .field)
+  series-reached fs v (step.Broken number) i p h = tt
+
+  pub values-reached : (fs : List Form) (v : List ℤ) (t : Step) (i : ℕ) → Read s c fs 0 w v t
+      → i ≤ l .one + l .two + l .three → Reached s t y i v
+  values-reached fs v (step.Next d) i p h = (values-ready i (p .placed) (p .long) h, p .field)
+  values-reached fs v (step.Broken number) i p h = tt
 
 -- the blocks of lines of each kind
 abbrev pub entries : Numbers → ℕ → List Form
@@ -80,10 +101,10 @@ module _ {r : ℕ} {x y : Numbers} {l : Lengths} {s : List ℕ} {c : Cursor} {w 
     unfolding readLengths readCount lengthsOf
     system-three = omega (arith, q .measured .three, q .width)
 
-    pub system-rows : 0 + total (entries x r) ≡ l .one
+    pub system-rows : total (entries x r) ≡ l .one
     system-rows = omega (arith, total-entries x r, system-one)
 
-    pub system-last : 0 + total (entriesRows x r) ≡ l .one + l .two
+    pub system-last : total (entriesRows x r) ≡ l .one + l .two
     system-last =
         omega (
           arith,
@@ -105,7 +126,7 @@ module _ {r : ℕ} {x y : Numbers} {l : Lengths} {s : List ℕ} {c : Cursor} {w 
     unfolding readLengths readCount lengthsOf
     basis-two = q .measured .two ∙ rw (q .width) (omega arith)
 
-    pub basis-rows : 0 + total (entries x r) ≡ l .one
+    pub basis-rows : total (entries x r) ≡ l .one
     basis-rows = omega (arith, total-entries x r, basis-one)
 
 -- of an equation
@@ -123,10 +144,10 @@ module _ {r : ℕ} {x y : Numbers} {l : Lengths} {s : List ℕ} {c : Cursor} {w 
   unfolding readLengths readCount lengthsOf
   equation-three = omega (arith, q .measured .three, q .width)
 
-  pub equation-right : 0 + total (rows x (97 ∷ []) 0 (r + 1)) ≡ l .one
+  pub equation-right : total (rows x (97 ∷ []) 0 (r + 1)) ≡ l .one
   equation-right = omega (arith, total-lines x (97 ∷ []) 0 (r + 1), equation-one)
 
-  pub equation-last : 0 + total (rowsRight x r) ≡ l .one + l .two
+  pub equation-last : total (rowsRight x r) ≡ l .one + l .two
   unfolding total
   equation-last =
       omega (

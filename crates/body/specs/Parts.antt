@@ -1,16 +1,18 @@
 -- What the readers of a job sheet's lines ask and find.
 -- Assumes nothing.
 use mathlib.Core.Path.{_≡_}
-use mathlib.Core.List.{List}
+use mathlib.Core.List.{List, _++_}
 use Prim.Native.Nat.{ℕ, _*_, _≤_, _<_, _^_}
 use lib.IntN.{ℤ}
 use lib.ListN.{length, getD}
 use Rattle.job.specs.declared.Kind.{Kind}
 use Rattle.job.specs.Job.{carried}
-use Rattle.text.specs.Lines.{Form}
+use Rattle.text.specs.Lines.{Form, total}
 use Rattle.cursor.specs.declared.Cursor.{Cursor}
 use Rattle.lines.specs.declared.Numbers.{Numbers}
-use Rattle.lines.specs.Steps.{formOf, Placed}
+use Rattle.lines.specs.declared.Step.{Step}
+use Rattle.lines.specs.declared.Step.the-variants as step
+use Rattle.lines.specs.Steps.{formOf, Placed, Ready, Read}
 use Rattle.body.specs.declared.Lengths.{Lengths}
 use Rattle.body.specs.JobLines.{jobLines, readLengths}
 
@@ -44,3 +46,14 @@ pub record Waiting (kind : Kind) (r : ℕ) (series values : Numbers) (l : Length
     pub field : c .field ≡ 0
     pub ranges : (series .low ≤ 2 ^ 63) × (series .high < 2 ^ 63) × (values .low ≤ 2 ^ 63) × (values .high < 2 ^ 63)
     pub room : 3080 ≤ length w
+
+-- what reading on wants: where lines were read, the place behind them, and a buffer with so many places
+abbrev pub Reached : List ℕ → Step → Numbers → ℕ → List ℤ → Type 0
+Reached s (step.Next d) n places w = Ready s d n places w × (d .field ≡ 0)
+Reached s (step.Broken number) n places w = Unit {0}
+
+-- other lines behind lines, whatever those were: all are passed, or the first that is broken is found
+pub record ReadOn (s : List ℕ) (before : Step) (gs : List Form) (from : ℕ) (mid new : List ℤ) (after : Step) : Type 0
+  where
+    pub read : (c : Cursor) (fs : List Form) (old : List ℤ) → total fs ≡ from → Read s c fs 0 old mid before
+        → Read s c (fs ++ gs) 0 old new after

@@ -3,8 +3,11 @@ use cursor::Cursor;
 use job::Kind;
 use lines::Numbers;
 use lines::Step;
-ghost use Rattle.lines.specs.Steps.{Read};
-ghost use Rattle.body.specs.Parts.{linesOf, Small, Measured, Waiting};
+ghost use mathlib.Core.List.{[], _∷_};
+ghost use Prim.Native.Nat.{_+_, _*_, _≤_};
+ghost use Rattle.lines.specs.Forms.{rowForms};
+ghost use Rattle.lines.specs.Steps.{formOf, Read};
+ghost use Rattle.body.specs.Parts.{linesOf, Small, Measured, Waiting, Reached, ReadOn};
 
 // The words of the buffers that a job reads.
 pub struct Lengths {
@@ -37,6 +40,41 @@ pub fn measure(kind: Kind, r: usize, n: usize) -> Lengths
     }
 }
 
+// Behind lines that were read: so many lines with the head h and a number, from 1 on.
+fn rows_behind(
+    s: &[u8],
+    step: Step,
+    h: &[u8],
+    rows: usize,
+    n: Numbers,
+    w: &mut [i64],
+    from: usize,
+) -> Step
+    requires { ⌜ Reached (now s) step n (from + rows * n .count) (now w) × (rows ≤ 9) ⌝ }
+    ensures { λ t. ⌜
+        ReadOn (now (s .entry)) step (rowForms (formOf n) (now (h .entry)) 1 rows) from (now (w .entry))
+        (now (w .exit)) t
+        ⌝ }
+{
+    let Step::Next(d) = step else {
+        return step;
+    };
+    lines::read_rows(s, d, h, 1, rows, n, w, from)
+}
+
+// Behind lines that were read: a line with the head h.
+fn line_behind(s: &[u8], step: Step, h: &[u8], n: Numbers, w: &mut [i64], from: usize) -> Step
+    requires { ⌜ Reached (now s) step n (from + n .count) (now w) ⌝ }
+    ensures { λ t. ⌜
+        ReadOn (now (s .entry)) step (formOf n (now (h .entry)) ∷ []) from (now (w .entry)) (now (w .exit)) t
+        ⌝ }
+{
+    let Step::Next(d) = step else {
+        return step;
+    };
+    lines::read_line(s, d, h, n, w, from)
+}
+
 // The lines of a system behind line 1: A, b, v.
 fn read_system(
     s: &[u8],
@@ -53,14 +91,8 @@ fn read_system(
         ⌝ }
 {
     let matrix = lines::read_matrix(s, c, b'A', r, r, series, w, 0);
-    let Step::Next(d) = matrix else {
-        return matrix;
-    };
-    let rows = lines::read_rows(s, d, b"b", 1, r, series, w, l.one);
-    let Step::Next(e) = rows else {
-        return rows;
-    };
-    lines::read_line(s, e, b"v", values, w, l.one + l.two)
+    let right = rows_behind(s, matrix, b"b", r, series, w, l.one);
+    line_behind(s, right, b"v", values, w, l.one + l.two)
 }
 
 // The lines of a basis behind line 1: A, V.
@@ -79,10 +111,7 @@ fn read_basis(
         ⌝ }
 {
     let matrix = lines::read_matrix(s, c, b'A', r, r, series, w, 0);
-    let Step::Next(d) = matrix else {
-        return matrix;
-    };
-    lines::read_rows(s, d, b"V", 1, r, values, w, l.one)
+    rows_behind(s, matrix, b"V", r, values, w, l.one)
 }
 
 // The lines of an equation behind line 1: a, b, start.
@@ -101,14 +130,8 @@ fn read_equation(
         ⌝ }
 {
     let rows = lines::read_rows(s, c, b"a", 0, r + 1, series, w, 0);
-    let Step::Next(d) = rows else {
-        return rows;
-    };
-    let right = lines::read_line(s, d, b"b", series, w, l.one);
-    let Step::Next(e) = right else {
-        return right;
-    };
-    lines::read_line(s, e, b"start", values, w, l.one + l.two)
+    let right = line_behind(s, rows, b"b", series, w, l.one);
+    line_behind(s, right, b"start", values, w, l.one + l.two)
 }
 
 // The lines behind line 1.

@@ -73,22 +73,10 @@ room-length System r n = refl
 room-length Basis r n = refl
 room-length Equation r n = refl
 
-module _ {m : ℕ} {kind : Kind} {r n : ℕ} {one two three c d : List ℕ} {room : ℕ}
-    (sized : Sized m kind r n one two three c d room)
+module _ {x y z : ℕ} {kind : Kind} {r n : ℕ} {one two three c d : List ℕ} {room : ℕ}
+    (sized : Sized x y z kind r n one two three c d room)
   where
-    lengths : Lengths m (lengthsOf kind r n)
-    lengths = lengths-within (sized .order-least) (sized .terms-least) (sized .within) kind
-
-    pub one-within : length one / 4 ≤ 2 * m
-    one-within = omega (arith, sized .one-long, lengths .one)
-
-    pub two-within : length two / 4 ≤ m
-    two-within = omega (arith, sized .two-long, lengths .two)
-
-    pub room-within : room ≤ 16 * m
-    room-within = omega (arith, sized .room-is, lengths .five)
-
-    -- parts of arrays as rooms
+    -- parts of longer rooms
     pub roomy : {a b e : List ℕ} → length a ≡ length one / 4 → length b ≡ length two / 4 → length e ≡ room
         → Roomy kind r n one two three a b c d e
     roomy la lb le = record {
@@ -100,17 +88,22 @@ module _ {m : ℕ} {kind : Kind} {r n : ℕ} {one two three c d : List ℕ} {roo
     }
 
     -- a work room of at most 1024 words is that of a short job
-    pub sized-short : room ≤ 1024 → Sized 64 kind r n one two three c d room
-    sized-short short = record {
-      order-least = sized .order-least;
-      terms-least = sized .terms-least;
-      within = omega (arith, sized .room-is, room-length kind r n);
-      one-long = sized .one-long;
-      two-long = sized .two-long;
-      three-long = sized .three-long;
-      four-long = sized .four-long;
-      room-is = sized .room-is;
-    }
+    pub sized-short : room ≤ 1024 → Sized 128 64 1024 kind r n one two three c d room
+    sized-short short =
+        let small : r * r * n ≤ 64 = omega (arith, sized .room-is, room-length kind r n) in
+        let lengths = lengths-within (sized .order-least) (sized .terms-least) small kind in
+        record {
+          order-least = sized .order-least;
+          terms-least = sized .terms-least;
+          one-long = sized .one-long;
+          two-long = sized .two-long;
+          three-long = sized .three-long;
+          four-long = sized .four-long;
+          room-is = sized .room-is;
+          one-within = omega (arith, sized .one-long, lengths .one);
+          two-within = omega (arith, sized .two-long, lengths .two);
+          room-within = short;
+        }
 
 -- a part that is lent from the front of an array of m zeros
 pub front-length : (m k : ℕ) → k ≤ m → length (take k (replicate {A = ℕ} m 0)) ≡ k
@@ -136,18 +129,22 @@ module _ {kind : Kind} {r n : ℕ} {l : List ℕ} (fitting : Fitting kind r n l)
 
 -- it can be solved
 pub fitted-sized : {kind : Kind} {r n : ℕ} {one two three four five c d : List ℕ}
-    → Fitted kind r n one two three four five c d → Sized 1024 kind r n one two three c d (length five / 4)
+    → Fitted kind r n one two three four five c d
+    → Sized 2048 1024 16384 kind r n one two three c d (length five / 4)
 fitted-sized fitted =
     let exact = fitted .fitting .exact in
+    let within = within-most (fitted .fitting) in
     record {
       order-least = fitted .fitting .small .order-least;
       terms-least = fitted .fitting .small .terms-least;
-      within = fitted .fitting .small .size;
       one-long = exact 0 (omega arith);
       two-long = exact 1 (omega arith);
       three-long = fitted .three-long;
       four-long = omega (arith, exact 3 (omega arith), fitted .four-long);
       room-is = omega (arith, exact 4 (omega arith));
+      one-within = omega (arith, exact 0 (omega arith), within .one);
+      two-within = omega (arith, exact 1 (omega arith), within .two);
+      room-within = omega (arith, exact 4 (omega arith), within .five);
     }
 
 -- Y and Z have the same length

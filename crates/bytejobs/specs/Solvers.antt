@@ -50,16 +50,19 @@ pub record Roomy (kind : Kind) (r n : ℕ) (one two three a b c d e : List ℕ) 
   pub four-long : length d ≡ getD (lengthsOf kind r n) 3 0
   pub five-long : length e ≡ getD (lengthsOf kind r n) 4 0
 
--- bytes of a job of at most the size m, rooms of words for its third and fourth buffer, and the words of its work room
-pub record Sized (m : ℕ) (kind : Kind) (r n : ℕ) (one two three c d : List ℕ) (room : ℕ) : Type 0 where
+-- bytes of a job, rooms of words for its third and fourth buffer, and the words of its work room; its first two
+-- buffers have at most x and y words, and its work room at most z
+pub record Sized (x y z : ℕ) (kind : Kind) (r n : ℕ) (one two three c d : List ℕ) (room : ℕ) : Type 0 where
   pub order-least : 1 ≤ r
   pub terms-least : 1 ≤ n
-  pub within : r * r * n ≤ m
   pub one-long : length one ≡ 4 * getD (lengthsOf kind r n) 0 0
   pub two-long : length two ≡ 4 * getD (lengthsOf kind r n) 1 0
   pub three-long : length three ≡ 4 * length c
   pub four-long : length d ≡ getD (lengthsOf kind r n) 3 0
   pub room-is : room ≡ getD (lengthsOf kind r n) 4 0
+  pub one-within : length one ≤ 4 * x
+  pub two-within : length two ≤ 4 * y
+  pub room-within : room ≤ z
 
 -- bytes of a job that fits, and rooms of words for its third and fourth buffer
 pub record Fitted (kind : Kind) (r n : ℕ) (one two three four five c d : List ℕ) : Type 0 where

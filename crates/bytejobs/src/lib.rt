@@ -5,6 +5,7 @@ use job::Answer;
 use job::Kind;
 ghost use mathlib.Core.Path.{_≡_};
 ghost use Prim.Native.Nat.{_<_};
+ghost use lib.ListN.{length};
 ghost use Rattle.job.specs.declared.Kind.the-variants.{System, Basis, Equation};
 ghost use Rattle.job.specs.Job.{buffers, words, bytes};
 ghost use Rattle.job.specs.Outcome.{Outcome};
@@ -85,8 +86,8 @@ fn solve_decoded(
     solve(solver, r, n, p, a, b, c, d, e)
 }
 
-// Solves a short job: r * r * N is at most 64.
-fn solve_short(
+// Solves in the first words of the rooms a, b and e, of which the work room gets `room`.
+fn solve_within(
     solver: Solver,
     r: u64,
     n: u64,
@@ -94,17 +95,18 @@ fn solve_short(
     one: &[u8],
     two: &[u8],
     three: &[u8],
+    a: &mut [u32],
+    b: &mut [u32],
     c: &mut [u32],
     d: &mut [u32],
+    e: &mut [u32],
     room: usize,
 ) -> Answer
-    requires { ⌜ Sized 64 (kindOf solver) r n (now one) (now two) (now three) (now c) (now d) room ⌝ }
+    requires { ⌜ Sized (length (now a)) (length (now b)) (length (now e)) (kindOf solver) r n (now one) (now two)
+        (now three) (now c) (now d) room ⌝ }
     ensures { λ x. ⌜ Answered (kindOf solver) r n p (now (one .entry)) (now (two .entry)) (now (three .entry))
         (now (c .exit)) (now (d .exit)) x ⌝ }
 {
-    let mut a = [0u32; 128];
-    let mut b = [0u32; 64];
-    let mut e = [0u32; 1024];
     let k = one.len() / 4;
     let l = two.len() / 4;
     solve_decoded(
@@ -123,45 +125,7 @@ fn solve_short(
     )
 }
 
-// Solves a job of any length that a byte job may have.
-fn solve_long(
-    solver: Solver,
-    r: u64,
-    n: u64,
-    p: u64,
-    one: &[u8],
-    two: &[u8],
-    three: &[u8],
-    c: &mut [u32],
-    d: &mut [u32],
-    room: usize,
-) -> Answer
-    requires { ⌜ Sized 1024 (kindOf solver) r n (now one) (now two) (now three) (now c) (now d) room ⌝ }
-    ensures { λ x. ⌜ Answered (kindOf solver) r n p (now (one .entry)) (now (two .entry)) (now (three .entry))
-        (now (c .exit)) (now (d .exit)) x ⌝ }
-{
-    let mut a = [0u32; 2048];
-    let mut b = [0u32; 1024];
-    let mut e = [0u32; 16384];
-    let k = one.len() / 4;
-    let l = two.len() / 4;
-    solve_decoded(
-        solver,
-        r,
-        n,
-        p,
-        one,
-        two,
-        three,
-        &mut a[..k],
-        &mut b[..l],
-        c,
-        d,
-        &mut e[..room],
-    )
-}
-
-// Solves in rooms that are not much longer than the job.
+// Solves in rooms that are not much longer than the job: short ones where r * r * N is at most 64.
 fn solve_bytes(
     solver: Solver,
     r: u64,
@@ -174,14 +138,48 @@ fn solve_bytes(
     d: &mut [u32],
     room: usize,
 ) -> Answer
-    requires { ⌜ Sized 1024 (kindOf solver) r n (now one) (now two) (now three) (now c) (now d) room ⌝ }
+    requires { ⌜ Sized 2048 1024 16384 (kindOf solver) r n (now one) (now two) (now three) (now c) (now d) room ⌝ }
     ensures { λ x. ⌜ Answered (kindOf solver) r n p (now (one .entry)) (now (two .entry)) (now (three .entry))
         (now (c .exit)) (now (d .exit)) x ⌝ }
 {
     if room <= 1024 {
-        return solve_short(solver, r, n, p, one, two, three, c, d, room);
+        let mut a = [0u32; 128];
+        let mut b = [0u32; 64];
+        let mut e = [0u32; 1024];
+        return solve_within(
+            solver,
+            r,
+            n,
+            p,
+            one,
+            two,
+            three,
+            &mut a,
+            &mut b,
+            c,
+            d,
+            &mut e,
+            room,
+        );
     }
-    solve_long(solver, r, n, p, one, two, three, c, d, room)
+    let mut a = [0u32; 2048];
+    let mut b = [0u32; 1024];
+    let mut e = [0u32; 16384];
+    solve_within(
+        solver,
+        r,
+        n,
+        p,
+        one,
+        two,
+        three,
+        &mut a,
+        &mut b,
+        c,
+        d,
+        &mut e,
+        room,
+    )
 }
 
 // Does a job that fits and whose first three buffers are only read; c and d are rooms of words for buffers 3 and 4.

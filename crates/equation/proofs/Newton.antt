@@ -4,7 +4,7 @@ use mathlib.Core.Path.{_≡_, refl, sym, ap, _∙_}
 use mathlib.Core.Logic.{inl, inr}
 use mathlib.Core.List.{List}
 use Prim.Native.Nat.{ℕ, suc, _+_, _-_, _*_, _%_, _<_, _≤_}
-use native.Mathlib.Nat.{zero-add, mul-le-mul}
+use native.Mathlib.Nat.{zero-add}
 use native.Mathlib.Decide.{ℕ-discrete}
 use native.Mathlib.Omega.{arith}
 use lib.ListN.{length, getD, length-replicate}
@@ -14,10 +14,11 @@ use Rattle.residue.specs.declared.Modulus.{Modulus}
 use Rattle.room.specs.Room.{wordsFrom, Inside, Put, Zeros}
 use Rattle.matrix.specs.Layout.{Written}
 use Rattle.matrix.specs.Product.{firstTerms}
-use Rattle.matrix.proofs.Written.{stride, entry-below, written-below}
+use Rattle.matrix.proofs.Written.{stride, written-below}
 use Rattle.ladder.specs.Layout.{matrixOf, solutionOf, inverseOf, sideOf, valueOf, answerOf}
 use Rattle.ladder.specs.Newton.{StartsWithOne, Varied}
 use Rattle.newton.specs.Basis.{Spreadable, spreadTerm}
+use Rattle.newton.proofs.Sizes.{step-least, entry-inside}
 use Rattle.newton.proofs.Starts.{left-moved}
 use Rattle.newton.proofs.Units.{diagonal-inside, diagonal-reach, diagonal-ones}
 use Rattle.newton.proofs.Matrices.{units, units-at, units-small}
@@ -40,11 +41,6 @@ module _ {q : Modulus} {r n : ℕ} {a b start work : List ℕ} (given : Ready q 
   abbrev side : ℕ
   side = 8 * m + (r - 1) * n
 
-  step-least : 1 ≤ step
-  step-least =
-      let more : 1 ≤ r + 1 = omega arith in
-      mul-le-mul more (given .terms-least)
-
   -- a row of a vector ends inside its place
   row-inside : {i : ℕ} → i < r → i * n + n ≤ m
   row-inside {i} l = omega (arith, stride n l, rows-inside given)
@@ -52,7 +48,7 @@ module _ {q : Modulus} {r n : ℕ} {a b start work : List ℕ} (given : Ready q 
   -- the identity's ones go wherever two places are
   pub ones-spread : {x : ℕ} {w : List ℕ} → x + 2 * m ≤ length w → Spreadable r step units 0 x w
   ones-spread inside = record {
-    terms = step-least;
+    terms = step-least r (given .terms-least);
     source = omega (arith, given .order, length-replicate {A = ℕ} 8 1);
     target = omega (arith, diagonal-reach n (given .order-least));
   }
@@ -102,34 +98,31 @@ module _ {q : Modulus} {r n : ℕ} {a b start work : List ℕ} (given : Ready q 
     before-starts : (x : ℕ) → x < 9 * m → getD w₄ x 0 ≡ getD w₃ x 0
     before-starts x l = starts .old x (λ e k h _ u eq. absurd (omega arith))
 
-    entry-inside : (k i j : ℕ) → k < n → i < r → j < r → (i * r + j) * n + k < m
-    entry-inside k i j l x y = omega (arith, stride n (entry-below {r = r} {c = r} x y))
-
     ones : (e : ℕ) → e < r → getD units e 0 ≡ 1
     ones e l = units-at e (omega (arith, given .order))
 
     solution-one : StartsWithOne r n m w₄
     solution-one i j x y =
-        let inside = entry-inside 0 i j (given .terms-least) x y in
+        let inside = entry-inside (given .terms-least) x y in
         before-starts (m + (i * r + j) * n + 0) (omega arith)
         ∙ beside-second (m + (i * r + j) * n + 0) (omega arith)
         ∙ diagonal-ones m units (given .terms-least) ones
         (λ u v s t. still-zero (m + (u * r + v) * n + 0) (omega arith)
-        (omega (arith, entry-inside 0 u v (given .terms-least) s t))) first i j x y
+        (omega (arith, entry-inside (given .terms-least) s t))) first i j x y
 
     inverse-one : (i j : ℕ) → i < r → j < r → inverseOf r n m w₄ 0 i j ≡ identityAt 0 i j
     inverse-one i j x y =
-        let inside = entry-inside 0 i j (given .terms-least) x y in
+        let inside = entry-inside (given .terms-least) x y in
         before-starts (2 * m + (i * r + j) * n + 0) (omega arith)
         ∙ diagonal-ones (2 * m) units (given .terms-least) ones
         (λ u v s t. behind-first (2 * m + (u * r + v) * n + 0) (omega arith)
         ∙ still-zero (2 * m + (u * r + v) * n + 0) (omega arith)
-        (omega (arith, entry-inside 0 u v (given .terms-least) s t))) second i j x y
+        (omega (arith, entry-inside (given .terms-least) s t))) second i j x y
 
     matrix-same : (k i j : ℕ) → k < n → i < r → j < r
         → matrixOf r n m w₄ k i j ≡ matrixFrom w₁ 0 r n k i j
     matrix-same k i j l x y =
-        let inside = entry-inside k i j l x y in
+        let inside = entry-inside l x y in
         before-starts (0 + (i * r + j) * n + k) (omega arith)
         ∙ beside-second (0 + (i * r + j) * n + k) (omega arith)
         ∙ beside-first (0 + (i * r + j) * n + k) (omega arith)

@@ -14,6 +14,7 @@ use Rattle.algebra.proofs.Companion.{equation-of-companion}
 use Rattle.residue.specs.declared.Modulus.{Modulus}
 use Rattle.room.specs.Room.{Zeros}
 use Rattle.newton.specs.Basis.{Spreadable}
+use Rattle.newton.proofs.Sizes.{square-few, size-few, step-few}
 use Rattle.halving.proofs.Rows.{rows-le}
 use Rattle.equation.specs.Translation.{coefficient, Places, Translatable}
 use Rattle.equation.specs.Equation.{Ready, Ran}
@@ -42,13 +43,11 @@ module _ {q : Modulus} {r n : ℕ} {a b start work : List ℕ} (given : Ready q 
   pub sizes
       : (r * r ≤ 64) × (r * n ≤ 32768) × (r * r * n ≤ 262144) × ((r + 1) * n ≤ 36864) × ((r - 1) * n ≤ 32768)
   sizes =
-      let square : r * r ≤ 64 = mul-le-mul (given .order) (given .order) in
-      let more : r + 1 ≤ 9 = omega (arith, given .order) in
       let less : r - 1 ≤ 8 = omega (arith, given .order) in (
-        square,
+        square-few (given .order),
         mul-le-mul (given .order) (given .terms),
-        mul-le-mul square (given .terms),
-        mul-le-mul more (given .terms),
+        size-few (given .order) (given .terms),
+        step-few (given .order) (given .terms),
         mul-le-mul less (given .terms),
       )
 

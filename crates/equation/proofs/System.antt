@@ -47,9 +47,6 @@ side-other w side {r} {i} k l = ap (λ c. cond c (getD w (side + k) 0) 0) (ne-eq
 module _ {q : Modulus} {r n : ℕ} {a b w : List ℕ} {at side free : ℕ} (given : Translatable q r n a b w at side free)
   where
     -- the first coefficient of a_r
-    pub lead-inside : r * n < length a
-    lead-inside = omega (arith, given .one, given .terms-least)
-
     pub lead-invertible : Invertible (q .p) (getD a (r * n) 0)
     lead-invertible = record {
       prime = given .prime;

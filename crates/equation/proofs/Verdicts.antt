@@ -6,9 +6,8 @@ use mathlib.Core.Logic.{_≢_}
 use mathlib.Core.List.{List}
 use Prim.Native.Nat.{ℕ, _*_, _<_, _≤_}
 use native.Mathlib.Nat.{add-zero, mul-le-mul, mul-le-mul-left}
-use native.Mathlib.Decide.{decLt}
 use native.Mathlib.Omega.{arith}
-use lib.ListN.{length, getD, List·getD-eq-default}
+use lib.ListN.{length, getD}
 use Rattle.residue.specs.declared.Modulus.{Modulus}
 use Rattle.residue.specs.Sums.{SmallModulus, IsModulus}
 use Rattle.job.specs.declared.Answer.{Answer}
@@ -17,20 +16,13 @@ use Rattle.job.specs.declared.Kind.the-variants.{Equation}
 use Rattle.job.specs.Refusal.{done, Says, verdictOf}
 use Rattle.job.specs.Job.{Buffers, buffers, words, wordAt, seriesAt, carried, roomOf, lengthsOf, readCount}
 use Rattle.job.specs.Rules.{checkRules, kindRules, callRules}
-use Rattle.job.specs.Outcome.{Filled, Solved, Outcome}
-use Rattle.job.proofs.Says.{
-  refused-not-done,
-  says-none,
-  says-here,
-  says-past,
-  says-head,
-  says-split,
-  OtherThanDone,
-}
+use Rattle.job.specs.Outcome.{Solved, Outcome}
+use Rattle.job.proofs.Says.{says-none, says-here, says-past, says-head, says-split, OtherThanDone}
 use Rattle.job.proofs.Accepted.{Accepted, accepted}
+use Rattle.job.proofs.Outcomes.{outcome-done, words-below, words-filled}
 use Rattle.refusal.specs.Checked.{Checked, Judged, jobOf}
 use Rattle.refusal.proofs.Judged.{judged-next, judged-stop}
-use Rattle.newton.proofs.Outcomes.{words-below}
+use Rattle.newton.proofs.Outcomes.{modulus-small}
 use Rattle.equation.specs.Equation.{Ready, Ran}
 
 module _ (r n p : ℕ) (lent : Buffers) where
@@ -76,12 +68,6 @@ module _ {r n p : ℕ} {a b start y w : List ℕ} (given : Accepted words (jobOf
     unfolding lengthsOf
     start-length = omega (arith, given .lengths .three)
 
-    pub modulus-small : SmallModulus p
-    modulus-small = record {
-      some = omega (arith, given .limits .prime .two);
-      half = omega (arith, given .limits .half);
-    }
-
     ready : {q : Modulus} → IsModulus q p → getD a (r * n) 0 ≢ 0 → Ready q r n a b start w
     unfolding lengthsOf carried roomOf readCount wordAt
     ready {q} modulus lead = record {
@@ -98,7 +84,9 @@ module _ {r n p : ℕ} {a b start y w : List ℕ} (given : Accepted words (jobOf
       room = omega (arith, given .lengths .five);
       below-one = rw (modulus .self) (given .one .below);
       below-two = rw (modulus .self) (given .two .below);
-      below-three = rw (modulus .self) (words-below (modulus-small .some) start-length (given .three (omega arith)));
+      below-three =
+          rw (modulus .self)
+          (words-below (modulus-small (given .limits) .some) start-length (given .three (omega arith)));
       lead = lead;
     }
 
@@ -107,10 +95,13 @@ pub record Taken (r n p : ℕ) (a b start y w : List ℕ) : Type 0 where
   pub says : Says (callRules words (jobOf Equation r n p (buffers a b start y w))) done
 
 module _ {r n p : ℕ} {a b start y w : List ℕ} (taken : Taken r n p a b start y w) where
-  pub call-accepted : Accepted words (jobOf Equation r n p (buffers a b start y w))
+  call-accepted : Accepted words (jobOf Equation r n p (buffers a b start y w))
   unfolding callRules
   call-accepted =
       accepted words _ (says-split (checkRules words (jobOf Equation r n p (buffers a b start y w))) _ (taken .says) .0)
+
+  pub call-modulus : SmallModulus p
+  call-modulus = modulus-small (call-accepted .limits)
 
   result-length : length y ≡ n
   unfolding lengthsOf
@@ -124,30 +115,12 @@ module _ {r n p : ℕ} {a b start y w : List ℕ} (taken : Taken r n p a b start
         result-length,
       )
 
-  pub outcome-done : {q : Modulus} {y′ w′ : List ℕ} → IsModulus q p → length y′ ≡ length y → length w′ ≡ length w
+  pub call-done : {q : Modulus} {y′ w′ : List ℕ} → IsModulus q p → length y′ ≡ length y → length w′ ≡ length w
       → Ran (q .p) r n a b start y′ w′
       → Outcome words (jobOf Equation r n p (buffers a b start y w)) Done (buffers a b start y′ w′)
-  unfolding verdictOf Solved carried seriesAt wordAt lengthsOf
-  outcome-done {q} {y′} {w′} modulus leny lenw h = record {
-    verdict = taken .says;
-    kept = λ number first second e. absurd (refused-not-done number first second (sym e));
-    solved = λ e. (refl, refl, refl, filled, rw (modulus .self) at (h .series));
-    cleared = λ e. record { len = lenw; zeros = h .cleared .zeros };
-  }
-    where
-      four : length y′ ≡ n
-      four = omega (arith, leny, result-length)
-
-      small : (k : ℕ) → k < n → getD y′ k 0 < p
-      small k l = rw (modulus .self) at (h .below k l)
-
-      filled : Filled words p n y y′
-      filled = record {
-        len = leny;
-        cells = λ k.
-            elim (decLt k n) [
-              | yes l ↦ omega (arith, small k l, call-accepted .limits .half)
-              | no l ↦ rw (List·getD-eq-default y′ 0 {n = k} (omega (arith, four))) (omega arith)
-            ];
-        below = small;
-      }
+  unfolding Solved carried seriesAt wordAt
+  call-done modulus leny lenw h =
+      let half = call-accepted .limits .half in
+      let filled = words-filled half result-length leny (λ k l. rw (modulus .self) at (h .below k l)) in
+      outcome-done (taken .says) (refl, refl, refl, filled, rw (modulus .self) at (h .series))
+      (record { len = lenw; zeros = h .cleared .zeros })

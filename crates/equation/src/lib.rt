@@ -163,9 +163,15 @@ fn check(
     Answer::Done
 }
 
-// The equation job by halving: a_r y^(r) + .. + a_0 y = b, where y and its derivatives below the r-th start with the
-// words of `start`.
-pub fn by_halving(
+// How the system of an equation is solved.
+enum Method {
+    Halving,
+    Newton,
+}
+
+// The equation job by either method.
+fn solve(
+    method: Method,
     r: u64,
     n: u64,
     p: u64,
@@ -186,8 +192,32 @@ pub fn by_halving(
         return answer;
     };
     let q = residue::make_modulus(p as u32);
-    run_halving(q, r as usize, n as usize, a, b, start, y, work);
+    match method {
+        Method::Halving => run_halving(q, r as usize, n as usize, a, b, start, y, work),
+        Method::Newton => run_newton(q, r as usize, n as usize, a, b, start, y, work),
+    }
     Answer::Done
+}
+
+// The equation job by halving: a_r y^(r) + .. + a_0 y = b, where y and its derivatives below the r-th start with the
+// words of `start`.
+pub fn by_halving(
+    r: u64,
+    n: u64,
+    p: u64,
+    a: &[u32],
+    b: &[u32],
+    start: &[u32],
+    y: &mut [u32],
+    work: &mut [u32],
+) -> Answer
+    ensures { λ x. ⌜ Outcome words
+        (jobOf Equation r n p
+        (buffers (now (a .entry)) (now (b .entry)) (now (start .entry)) (now (y .entry)) (now (work .entry))))
+        x
+        (buffers (now (a .entry)) (now (b .entry)) (now (start .entry)) (now (y .exit)) (now (work .exit))) ⌝ }
+{
+    solve(Method::Halving, r, n, p, a, b, start, y, work)
 }
 
 // The equation job by Newton, with the same answer and the same words.
@@ -207,11 +237,5 @@ pub fn by_newton(
         x
         (buffers (now (a .entry)) (now (b .entry)) (now (start .entry)) (now (y .exit)) (now (work .exit))) ⌝ }
 {
-    let answer = check(r, n, p, a, b, start, y, work);
-    let Answer::Done = answer else {
-        return answer;
-    };
-    let q = residue::make_modulus(p as u32);
-    run_newton(q, r as usize, n as usize, a, b, start, y, work);
-    Answer::Done
+    solve(Method::Newton, r, n, p, a, b, start, y, work)
 }

@@ -4,16 +4,16 @@ use mathlib.Core.Path.{_≡_, refl, sym, ap, _∙_}
 use mathlib.Core.List.{List}
 use Prim.Native.Nat.{ℕ, _+_, _*_, _%_, _<_}
 use native.Mathlib.Nat as N
-use native.Mathlib.Decide.{decLt}
 use native.Mathlib.Omega.{arith}
-use lib.ListN.{length, getD, List·getD-eq-default}
+use lib.ListN.{length, getD}
 use Rattle.algebra.proofs.Meaning.{basis-cong}
 use Rattle.residue.specs.declared.Modulus.{Modulus}
 use Rattle.room.specs.Room.{wordsFrom, Inside, Put, Zeros}
 use Rattle.matrix.specs.Layout.{coef, Below}
-use Rattle.matrix.proofs.Written.{stride, entry-below}
 use Rattle.job.specs.Job.{words, wordAt, seriesAt, matrixAt}
+use Rattle.job.proofs.Outcomes.{all-below}
 use Rattle.newton.specs.Basis.{Ready, Found, Ran}
+use Rattle.newton.proofs.Sizes.{entry-inside}
 
 -- a series that was copied whole to a buffer of its own
 module _ (r n : ℕ) {l : ℕ} (at : ℕ) (w : List ℕ) {y y′ : List ℕ} (size : l ≡ r * r * n)
@@ -21,15 +21,12 @@ module _ (r n : ℕ) {l : ℕ} (at : ℕ) (w : List ℕ) {y y′ : List ℕ} (si
   copied-at : (k i j : ℕ) → k < n → i < r → j < r → coef w at r n k i j ≡ matrixAt words r n y′ k i j
   unfolding matrixAt seriesAt wordAt
   copied-at k i j h a b =
-      let inside : (i * r + j) * n + k < l = omega (arith, stride n (entry-below {r = r} {c = r} a b)) in
+      let inside : (i * r + j) * n + k < l = omega (arith, entry-inside h a b) in
       ap (λ x. getD w x 0) (omega arith) ∙ sym (rw N.zero-add at (put .new ((i * r + j) * n + k) inside))
 
   copied-below : {p : ℕ} → 0 < p → Below p w → length y ≡ l → length y′ ≡ length y → Below p y′
-  copied-below some below long same k =
-      elim (decLt k l) [
-        | yes h ↦ rw (rw N.zero-add at (put .new k h)) (below (at + k))
-        | no h ↦ rw (List·getD-eq-default y′ 0 {n = k} (omega arith)) some
-      ]
+  copied-below some below long same =
+      all-below y′ some (same ∙ long) (λ k h. rw (rw N.zero-add at (put .new k h)) (below (at + k)))
 
 module _ {q : Modulus} {r n l : ℕ} {a y0 s w v : List ℕ} (given : Ready q r n a y0 s w) (size : l ≡ r * r * n)
     (same : length v ≡ length w) where

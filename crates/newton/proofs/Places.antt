@@ -2,7 +2,7 @@
 -- Assumes nothing.
 use mathlib.Core.Path.{_≡_, refl, sym, ap, _∙_}
 use mathlib.Core.List.{List}
-use Prim.Native.Nat.{ℕ, _+_, _*_, _%_, _<_, _≤_}
+use Prim.Native.Nat.{ℕ, _+_, _*_, _%_, _<_}
 use native.Mathlib.Nat as N
 use native.Mathlib.Omega.{arith}
 use lib.ListN.{length, getD}
@@ -11,23 +11,19 @@ use Rattle.residue.specs.declared.Modulus.{Modulus}
 use Rattle.room.specs.Room.{wordsFrom, Inside, Put, Zeros}
 use Rattle.matrix.specs.Layout.{Below, Written}
 use Rattle.matrix.specs.Product.{firstTerms}
-use Rattle.matrix.proofs.Written.{stride, entry-below, put-below, written-below}
+use Rattle.matrix.proofs.Written.{entry-below, put-below, written-below}
 use Rattle.eliminate.specs.Square.{squareAt}
-use Rattle.job.specs.Job.{words, wordAt, seriesAt, matrixAt}
+use Rattle.job.specs.Job.{words, matrixAt}
 use Rattle.ladder.specs.Layout.{matrixOf, solutionOf, inverseOf}
 use Rattle.ladder.specs.Newton.{Started, BasisFound}
 use Rattle.newton.specs.Basis.{Spreadable, spreadTerm, startOf, Ready, Found}
+use Rattle.newton.proofs.Sizes.{entry-inside}
 use Rattle.newton.proofs.Starts.{start-word, left-moved}
+use Rattle.newton.proofs.Matrices.{matrix-same}
 
 module _ {q : Modulus} {r n : ℕ} {a y0 s w : List ℕ} (given : Ready q r n a y0 s w) where
   abbrev m : ℕ
   m = r * r * n
-
-  pub square-few : r * r ≤ 64
-  square-few = N.mul-le-mul (given .order) (given .order)
-
-  pub size-few : r * r * n ≤ 262144
-  size-few = N.mul-le-mul square-few (given .terms)
 
   module _ {w₁ : List ℕ} (len₁ : length w₁ ≡ length w) (zeros : Zeros w₁) where
     below₁ : Below (q .p) w₁
@@ -69,13 +65,9 @@ module _ {q : Modulus} {r n : ℕ} {a y0 s w : List ℕ} (given : Ready q r n a 
           before-second : (x : ℕ) → x < m → getD w₃ x 0 ≡ getD w₂ x 0
           before-second x l = second .old x (λ e k h _ u eq. absurd (omega arith))
 
-          entry-inside : (i j : ℕ) → i < r → j < r → (i * r + j) * n < m
-          entry-inside i j x y =
-              omega (arith, stride n (entry-below {r = r} {c = r} x y), given .terms-least)
-
           solution-first : (i j : ℕ) → i < r → j < r → solutionOf r n m w₄ 0 i j ≡ startOf r y0 i j
           solution-first i j x y =
-              let inside = entry-inside i j x y in
+              let inside = entry-inside (given .terms-least) x y in
               before-third (m + (i * r + j) * n + 0) (omega arith)
               ∙ second .new (i * r + j) 0 (entry-below x y) (omega arith) (omega arith)
               ∙ ap (λ c. getD y0 c 0) (N.zero-add (i * r + j))
@@ -99,22 +91,16 @@ module _ {q : Modulus} {r n : ℕ} {a y0 s w : List ℕ} (given : Ready q r n a 
                 left-moved (solutionOf r n m w₄ 0) (inverseOf r n m w₄ 0) solution-first inverse-first (given .inverse);
           }
 
-          matrix-same : (k i j : ℕ) → k < n → i < r → j < r → matrixOf r n m w₄ k i j ≡ matrixAt words r n a k i j
-          unfolding matrixAt seriesAt wordAt
-          matrix-same k i j l x y =
-              let inside : (i * r + j) * n + k < m = omega (arith, stride n (entry-below {r = r} {c = r} x y)) in
-              before-third (0 + (i * r + j) * n + k) (omega arith)
-              ∙ before-second (0 + (i * r + j) * n + k) (omega arith)
-              ∙ ap (λ c. getD w₂ c 0) (omega arith)
-              ∙ first .new ((i * r + j) * n + k) inside
-              ∙ ap (λ c. getD a c 0) (N.zero-add ((i * r + j) * n + k))
+          matrix-stays : (k i j : ℕ) → k < n → i < r → j < r → matrixOf r n m w₄ k i j ≡ matrixAt words r n a k i j
+          matrix-stays =
+              matrix-same r n a w₄ first (λ x l. before-third x (omega arith) ∙ before-second x l)
 
           pub basis-placed : {z : List ℕ} → BasisFound (q .p) r n w₄ z → Found (q .p) r n a y0 z
           basis-placed h = record {
             below = h .below;
             series =
                 basis-cong (given .terms-least)
-                (λ k i j l x y. ap (λ v. v % q .p) (matrix-same k i j (omega arith) x y))
+                (λ k i j l x y. ap (λ v. v % q .p) (matrix-stays k i j (omega arith) x y))
                 (λ i j x y. ap (λ v. v % q .p) (solution-first i j x y)) (λ k i j l x y. refl) (λ k i j l x y. refl)
                 (h .series);
           }

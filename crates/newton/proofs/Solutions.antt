@@ -5,9 +5,8 @@ use mathlib.Core.Logic.{inl}
 use mathlib.Core.List.{List}
 use Prim.Native.Nat.{ℕ, _+_, _*_, _%_, _<_, _≤_}
 use native.Mathlib.Nat as N
-use native.Mathlib.Decide.{decLt}
 use native.Mathlib.Omega.{arith}
-use lib.ListN.{length, getD, List·getD-eq-default}
+use lib.ListN.{length, getD}
 use Rattle.algebra.specs.Meaning.{identityAt, LeftInverse}
 use Rattle.algebra.proofs.Matrix.{Matrices}
 use Rattle.algebra.proofs.Residue.{Residues}
@@ -17,12 +16,14 @@ use Rattle.residue.specs.declared.Modulus.{Modulus}
 use Rattle.room.specs.Room.{wordsFrom, Inside, Put, Zeros}
 use Rattle.matrix.specs.Layout.{Below, Written}
 use Rattle.matrix.specs.Product.{firstTerms}
-use Rattle.matrix.proofs.Written.{stride, entry-below, put-below, written-below}
+use Rattle.matrix.proofs.Written.{stride, put-below, written-below}
 use Rattle.job.specs.Job.{words, wordAt, seriesAt, matrixAt}
+use Rattle.job.proofs.Outcomes.{all-below}
 use Rattle.ladder.specs.Layout.{matrixOf, solutionOf, inverseOf, sideOf, valueOf, answerOf}
 use Rattle.ladder.specs.Newton.{Started, StartsWithOne, Varied}
 use Rattle.newton.specs.Basis.{Spreadable, spreadTerm}
 use Rattle.newton.specs.System.{Placed, SystemReady, SystemFound, SystemRan}
+use Rattle.newton.proofs.Sizes.{entry-inside}
 use Rattle.newton.proofs.Starts.{left-moved}
 
 -- the identity is its own inverse
@@ -69,20 +70,17 @@ module _ {q : Modulus} {r n l : ℕ} {a b v w : List ℕ} (given : SystemReady q
         before : (x : ℕ) → x < 8 * l → getD w₃ x 0 ≡ getD w₁ x 0
         before x h = second .old x (λ e k y _ u eq. absurd (omega arith)) ∙ first .old x (inl h)
 
-        entry-inside : (k i j : ℕ) → k < n → i < r → j < r → (i * r + j) * n + k < l
-        entry-inside k i j h x y = omega (arith, stride n (entry-below {r = r} {c = r} x y))
-
         abbrev m : ℕ
         m = r * r * n
 
         solution-one : StartsWithOne r n m w₃
         solution-one i j x y =
-            let inside = entry-inside 0 i j (given .placeable .terms-least) x y in
+            let inside = entry-inside (given .placeable .terms-least) x y in
             before (m + (i * r + j) * n + 0) (omega arith) ∙ placed .solution i j x y
 
         inverse-one : (i j : ℕ) → i < r → j < r → inverseOf r n m w₃ 0 i j ≡ identityAt 0 i j
         inverse-one i j x y =
-            let inside = entry-inside 0 i j (given .placeable .terms-least) x y in
+            let inside = entry-inside (given .placeable .terms-least) x y in
             before (2 * m + (i * r + j) * n + 0) (omega arith) ∙ placed .inverse i j x y
 
         pub system-started : Started q r n w₃ × StartsWithOne r n (r * r * n) w₃
@@ -108,7 +106,7 @@ module _ {q : Modulus} {r n l : ℕ} {a b v w : List ℕ} (given : SystemReady q
 
         matrix-same : (k i j : ℕ) → k < n → i < r → j < r → matrixOf r n m w₃ k i j ≡ matrixAt words r n a k i j
         matrix-same k i j h x y =
-            let inside = entry-inside k i j h x y in
+            let inside = entry-inside h x y in
             before (0 + (i * r + j) * n + k) (omega arith) ∙ placed .matrix k i j h x y
 
         side-same : (k i : ℕ) → k < n → i < r → sideOf r n m w₃ k i ≡ seriesAt words n b k i
@@ -154,10 +152,9 @@ module _ {q : Modulus} {r n l : ℕ} {a b v w : List ℕ} (given : SystemReady q
         → Put 0 count (wordsFrom z (11 * l)) y y′ → Zeros u → SystemRan (q .p) r n a b v y′ u
     unfolding seriesAt wordAt
     system-handed {y′} found leny put zeros = record {
-      below = λ k. elim (decLt k count) [
-        | yes h ↦ rw (rw N.zero-add at (put .new k h)) (found .below (11 * l + k))
-        | no h ↦ rw (List·getD-eq-default y′ 0 {n = k} (omega arith)) (given .modulus .some)
-      ];
+      below =
+          all-below y′ (given .modulus .some) (leny ∙ sym whole)
+          (λ k h. rw (rw N.zero-add at (put .new k h)) (found .below (11 * l + k)));
       series =
           system-cong (given .placeable .terms-least) (λ k i j s x y. refl) (λ k i s x. refl) (λ i x. refl)
           (λ k i s x. ap (λ c. c % q .p) (answer-same k i s x)) (found .series);

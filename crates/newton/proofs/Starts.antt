@@ -3,7 +3,7 @@
 use mathlib.Core.Path.{_≡_, refl, sym, ap, ap₂, _∙_}
 use mathlib.Core.Bool.{Bool}
 use mathlib.Core.List.{List}
-use Prim.Native.Nat.{ℕ, _+_, _*_, _%_, _<_, _≤_}
+use Prim.Native.Nat.{ℕ, _+_, _*_, _%_, _<_}
 use native.Mathlib.Nat as N
 use native.Mathlib.Decide.{decLt}
 use native.Mathlib.Omega.{arith}
@@ -31,9 +31,6 @@ left-moved {p} {r} u′ v′ eu ev h = record {
 }
 
 module _ {p r : ℕ} {y0 s : List ℕ} (given : Startable p r y0 s) where
-  pub square-few : r * r ≤ 64
-  square-few = N.mul-le-mul (given .order) (given .order)
-
   pub start-inside : Inside y0 0 (r * r) × Inside s 0 (r * r)
   start-inside = (record { within = omega (arith, given .source) }, record { within = omega (arith, given .target) })
 

@@ -1,6 +1,6 @@
 -- The identity in the places of Y and Z: ones that are spread over the diagonal of a cleared room.
 -- Assumes nothing.
-use mathlib.Core.Path.{_≡_, refl, sym, ap, _∙_}
+use mathlib.Core.Path.{_≡_, sym, ap, _∙_}
 use mathlib.Core.Logic.{_≢_}
 use mathlib.Core.List.{List}
 use Prim.Native.Nat.{ℕ, _+_, _*_, _<_, _≤_}
@@ -8,23 +8,15 @@ use native.Mathlib.Nat as N
 use native.Mathlib.Decide.{decLt, ℕ-discrete}
 use native.Mathlib.Omega.{arith}
 use lib.ListN.{getD}
-use borrow.Author.Tests.{eq-eqb, ne-eqb}
 use Rattle.algebra.specs.Meaning.{identityAt}
+use Rattle.algebra.proofs.Meaning.{identity-same, identity-other}
 use Rattle.matrix.specs.Layout.{coef, Written}
 use Rattle.matrix.specs.Product.{firstTerms}
 use Rattle.matrix.proofs.Written.{stride, entry-below}
 use Rattle.newton.specs.Basis.{spreadTerm}
 
-identity-same : (i : ℕ) → identityAt 0 i i ≡ 1
-unfolding identityAt
-identity-same i = rw (eq-eqb i i refl)
-
-identity-other : (i j : ℕ) → i ≢ j → identityAt 0 i j ≡ 0
-unfolding identityAt
-identity-other i j n = rw (ne-eqb i j n)
-
 -- the words of the diagonal are r + 1 entries apart
-pub diagonal : (r n i : ℕ) → i * ((r + 1) * n) ≡ (i * r + i) * n
+diagonal : (r n i : ℕ) → i * ((r + 1) * n) ≡ (i * r + i) * n
 diagonal r n i = rw (← N.mul-assoc, N.mul-add, N.mul-one)
 
 -- the diagonal ends inside its place

@@ -23,7 +23,7 @@ use Rattle.sheet.specs.Read.{ReadOutcome}
 use Rattle.sheet.proofs.Unique.{job-header}
 use Rattle.result.specs.ResultSheet.{balancedForm, resultLines, resultForms, resultLengths}
 use Rattle.reread.proofs.Results.{result-header}
-use Rattle.pealvixen.specs.Sheets.{LineFits}
+use Rattle.pealvixen.specs.Steps.{LineFits}
 use Rattle.pealvixen.proofs.Broken.{broken-near}
 
 pub length-matrix : (form : List ℕ → Form) (head : List ℕ) (columns i k : ℕ)

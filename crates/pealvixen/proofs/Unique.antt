@@ -6,15 +6,16 @@ use mathlib.Core.List.{List}
 use Prim.Native.Nat.{ℕ, _<_}
 use native.Mathlib.Omega.{arith}
 use Rattle.job.specs.declared.Answer.{Answer}
-use Rattle.job.specs.Refusal.{Verdict, done, refused, verdictOf}
+use Rattle.job.specs.Refusal.{done, refused, verdictOf}
 use Rattle.job.specs.Job.{Job, Buffers, Handed}
 use Rattle.job.proofs.Unique.{outcome-unique}
-use Rattle.text.specs.Lines.{Form, total}
 use Rattle.header.specs.declared.Header.{Header}
-use Rattle.body.proofs.Totals.{sumOf}
-use Rattle.sheet.specs.Sheet.{Keeps}
-use Rattle.sheet.proofs.Unique.{outcome-unique as read-unique}
+use Rattle.sheet.specs.declared.Reading.{Reading}
+use Rattle.sheet.specs.Read.{JobOutcome}
+use Rattle.sheet.proofs.Unique.{job-outcome-unique}
 use Rattle.result.proofs.Unique.{outcome-unique as written-unique}
+use Rattle.reread.specs.Read.{ResultOutcome}
+use Rattle.reread.proofs.Unique.{result-outcome-unique}
 use Rattle.pealvixen.specs.declared.SheetRead.{SheetRead}
 use Rattle.pealvixen.specs.declared.SheetWritten.{SheetWritten}
 use Rattle.pealvixen.specs.Packing.{packed, PackedOutcome}
@@ -43,16 +44,22 @@ packed-outcome-unique f g =
     let same = outcome-unique (f .outcome) (g .outcome) in
     (f .code-is ∙ ap (λ (x : Answer). packed (verdictOf x)) (same .0) ∙ sym (g .code-is), same .1)
 
--- an exported reader of a sort of sheets whose first line decides the header leaves one answer and one content of
--- every room
-module _ (forms : Header → List Form)
-    (decides : (s : List ℕ) (g h : Header) → Keeps forms s g 1 → Keeps forms s h 1 → g ≡ h)
-    (lengths : Header → List ℕ) (exact : (h : Header) → total (forms h) ≡ sumOf (lengths h)) where
-  pub read-told-unique : {s : List ℕ} {rooms a b : List (List ℕ)} {x y : SheetRead}
-      → ReadTold forms lengths s rooms x a → ReadTold forms lengths s rooms y b → (x ≡ y) × (a ≡ b)
-  read-told-unique {s} {rooms} f g =
-      let same = read-unique forms decides lengths exact s rooms (f .outcome) (g .outcome) in
+-- an exported reader leaves one answer and one content of every room, as the reader does
+module _ {Leaves : Reading → List (List ℕ) → Type 0}
+    (one : (x y : Reading) (a b : List (List ℕ)) → Leaves x a → Leaves y b → (x ≡ y) × (a ≡ b)) where
+  pub read-told-unique : {x y : SheetRead} {a b : List (List ℕ)} → ReadTold Leaves x a → ReadTold Leaves y b
+      → (x ≡ y) × (a ≡ b)
+  read-told-unique f g =
+      let same = one _ _ _ _ (f .outcome) (g .outcome) in
       (f .is ∙ ap told (same .0) ∙ sym (g .is), same .1)
+
+pub job-told-unique : {s : List ℕ} {rooms a b : List (List ℕ)} {x y : SheetRead}
+    → ReadTold (JobOutcome s rooms) x a → ReadTold (JobOutcome s rooms) y b → (x ≡ y) × (a ≡ b)
+job-told-unique = read-told-unique (λ x y a b f g. job-outcome-unique f g)
+
+pub result-told-unique : {s : List ℕ} {rooms a b : List (List ℕ)} {x y : SheetRead}
+    → ReadTold (ResultOutcome s rooms) x a → ReadTold (ResultOutcome s rooms) y b → (x ≡ y) × (a ≡ b)
+result-told-unique = read-told-unique (λ x y a b f g. result-outcome-unique f g)
 
 -- and so does an exported writer
 pub write-told-unique : {h : Header} {lent : List (List ℕ)} {text a b : List ℕ} {x y : SheetWritten}

@@ -11,26 +11,18 @@ ghost use Rattle.job.specs.Job.{buffers, words, bytes};
 ghost use Rattle.job.specs.declared.Kind.the-variants.{System, Basis, Equation};
 ghost use Rattle.refusal.specs.Checked.{jobOf};
 ghost use Rattle.header.specs.Header.{header};
+ghost use Rattle.sheet.specs.Read.{JobOutcome};
+ghost use Rattle.reread.specs.Read.{ResultOutcome};
 ghost use Rattle.pealvixen.specs.Packing.{packed, PackedOutcome};
-ghost use Rattle.pealvixen.specs.Sheets.{kindNumber, refusedSheet, refusedText, told, toldWritten};
-ghost use Rattle.pealvixen.specs.Sheets.{LineFits, PlacesFit, JobTold, ResultTold, WriteTold};
+ghost use Rattle.pealvixen.specs.Sheets.{kindNumber, refusedSheet, told, toldWritten, ReadTold, WriteTold};
+ghost use Rattle.pealvixen.specs.Steps.{LineFits};
 
 // The answer as one number.
 fn pack(a: Answer) -> u64
     ensures { λ r. ⌜ r ≡ packed (verdictOf a) ⌝ }
 {
-    match a {
-        Answer::Done => 0,
-        Answer::Order => 1,
-        Answer::Terms => 2,
-        Answer::Modulus => 3,
-        Answer::TermsOverModulus => 4,
-        Answer::Length { buffer } => 5 + 256 * (buffer as u64),
-        Answer::Word { buffer, index } => 6 + 256 * (buffer as u64) + 4294967296 * (index as u64),
-        Answer::Singular => 7,
-        Answer::LeadingZero => 8,
-        Answer::Large => 10,
-    }
+    let q = result::place(a);
+    q.0 as u64 + 256 * (q.1 as u64) + 4294967296 * (q.2 as u64)
 }
 
 // The system job by halving.
@@ -317,7 +309,7 @@ pub extern "C" fn pealvixen_read_job(
     three: &mut [u32],
 ) -> SheetRead
     ensures { λ x. ⌜
-        JobTold (now (text .entry)) (now (one .entry) ∷ now (two .entry) ∷ now (three .entry) ∷ []) x
+        ReadTold (JobOutcome (now (text .entry)) (now (one .entry) ∷ now (two .entry) ∷ now (three .entry) ∷ [])) x
         (now (one .exit) ∷ now (two .exit) ∷ now (three .exit) ∷ [])
         ⌝ }
 {
@@ -329,7 +321,7 @@ pub extern "C" fn pealvixen_read_job(
 #[no_mangle]
 pub extern "C" fn pealvixen_read_result(text: &[u8], one: &mut [u32], two: &mut [u32]) -> SheetRead
     ensures { λ x. ⌜
-        ResultTold (now (text .entry)) (now (one .entry) ∷ now (two .entry) ∷ []) x
+        ReadTold (ResultOutcome (now (text .entry)) (now (one .entry) ∷ now (two .entry) ∷ [])) x
         (now (one .exit) ∷ now (two .exit) ∷ [])
         ⌝ }
 {
@@ -344,17 +336,6 @@ pub struct SheetWritten {
     pub length: u64,
 }
 
-// A refusal to write.
-fn refuse_text(number: u64, first: u64, second: u64) -> SheetWritten
-    requires { ⌜ PlacesFit number first second ⌝ }
-    ensures { λ r. ⌜ r ≡ refusedText number first second ⌝ }
-{
-    SheetWritten {
-        answer: number + 256 * first + 4294967296 * second,
-        length: 0,
-    }
-}
-
 // What a writer answers, told in numbers.
 fn tell_written(w: Written) -> SheetWritten
     ensures { λ r. ⌜ r ≡ toldWritten w ⌝ }
@@ -364,13 +345,10 @@ fn tell_written(w: Written) -> SheetWritten
             answer: 0,
             length: length as u64,
         },
-        Written::Order => refuse_text(1, 0, 0),
-        Written::Terms => refuse_text(2, 0, 0),
-        Written::Modulus => refuse_text(3, 0, 0),
-        Written::TermsOverModulus => refuse_text(4, 0, 0),
-        Written::Length { buffer } => refuse_text(5, buffer as u64, 0),
-        Written::Word { buffer, index } => refuse_text(6, buffer as u64, index as u64),
-        Written::Large => refuse_text(10, 0, 0),
+        Written::Refused(a) => SheetWritten {
+            answer: pack(a),
+            length: 0,
+        },
     }
 }
 

@@ -9,7 +9,7 @@ ghost use Prim.Native.Nat.{_+_, _*_, _≤_};
 ghost use lib.ListN.{length};
 ghost use Rattle.algebra.specs.Numbers.{Prime};
 ghost use Rattle.prime.specs.Test.{Decides};
-ghost use Rattle.job.specs.Job.{buffers, words, bytes, wordAt};
+ghost use Rattle.job.specs.Job.{buffers, words, bytes, cellsOf, wordAt};
 ghost use Rattle.job.specs.Rules.{Outside, limitRules, sizeRules, wordRules};
 ghost use Rattle.refusal.specs.Checked.{
   Judged,
@@ -19,8 +19,11 @@ ghost use Rattle.refusal.specs.Checked.{
   Measured,
   Compared,
   Readable,
-  ReadsJudged,
+  FirstRefusal,
   thirdRead,
+  handedAs,
+  Limited,
+  Shaped,
 };
 
 // Is x outside low..high?
@@ -62,18 +65,28 @@ pub fn check_limits(r: u64, n: u64, p: u64) -> Answer
     Answer::Done
 }
 
-// Refusals 1 to 4, and behind them 10: more than a byte job may have.
-pub fn check_small(r: u64, n: u64, p: u64) -> Answer
-    ensures { λ a. ⌜ Judged (limitRules r n p ++ sizeRules bytes r n) a ⌝ }
+// Refusals 1 to 4, and behind them, but for a call in words, 10: more than a byte job may have.
+fn check_size(in_words: bool, r: u64, n: u64, p: u64) -> Answer
+    ensures { λ a. ⌜ Limited (handedAs in_words) r n p a ⌝ }
 {
     let before = check_limits(r, n, p);
     let Answer::Done = before else {
         return before;
     };
+    if in_words {
+        return Answer::Done;
+    }
     if 1024 < r * r * n {
         return Answer::Large;
     }
     Answer::Done
+}
+
+// Refusals 1 to 4, and behind them 10.
+pub fn check_small(r: u64, n: u64, p: u64) -> Answer
+    ensures { λ a. ⌜ Judged (limitRules r n p ++ sizeRules bytes r n) a ⌝ }
+{
+    check_size(false, r, n, p)
 }
 
 // The words of each buffer, by number.
@@ -139,7 +152,8 @@ pub fn word_at(s: &[u8], k: usize) -> u32
     requires { ⌜ 4 * k + 4 ≤ length (now s) ⌝ }
     ensures { λ w. ⌜ w ≡ wordAt bytes (now (s .entry)) k ⌝ }
 {
-    word_of(s[4 * k], s[4 * k + 1], s[4 * k + 2], s[4 * k + 3])
+    let at = 4 * k;
+    word_of(s[at], s[at + 1], s[at + 2], s[at + 3])
 }
 
 // Refusal 6, in the buffer of bytes with the number b, of which count words are read.
@@ -171,52 +185,49 @@ fn third_read(kind: Kind, count: usize) -> usize
     }
 }
 
-// Refusal 6, in the first three buffers, of which k, l and m words are read.
-fn check_reads_words(
-    p: u32,
-    one: &[u32],
-    k: usize,
-    two: &[u32],
-    l: usize,
-    three: &[u32],
-    m: usize,
-) -> Answer
-    requires { ⌜ Readable words k (now one) × Readable words l (now two) × Readable words m (now three) ⌝ }
-    ensures { λ a. ⌜ ReadsJudged words p (now (one .entry)) k (now (two .entry)) l (now (three .entry)) m a ⌝ }
+// The first of three answers that is a refusal, or Done.
+fn first_refusal(a: Answer, b: Answer, c: Answer) -> Answer
+    ensures { λ d. ⌜ FirstRefusal a b c d ⌝ }
 {
-    let first = check_buffer_words(p, 1, one, k);
-    let Answer::Done = first else {
-        return first;
+    let Answer::Done = a else {
+        return a;
     };
-    let second = check_buffer_words(p, 2, two, l);
-    let Answer::Done = second else {
-        return second;
+    let Answer::Done = b else {
+        return b;
     };
-    check_buffer_words(p, 3, three, m)
+    c
 }
 
-// Refusal 6, in the first three buffers of bytes, of which k, l and m words are read.
-fn check_reads_bytes(
-    p: u32,
-    one: &[u8],
-    k: usize,
-    two: &[u8],
-    l: usize,
-    three: &[u8],
-    m: usize,
-) -> Answer
-    requires { ⌜ Readable bytes k (now one) × Readable bytes l (now two) × Readable bytes m (now three) ⌝ }
-    ensures { λ a. ⌜ ReadsJudged bytes p (now (one .entry)) k (now (two .entry)) l (now (three .entry)) m a ⌝ }
+// The cells of a word, in words or in bytes.
+fn cells_of(in_words: bool) -> usize
+    ensures { λ m. ⌜ (m ≡ cellsOf (handedAs in_words)) × (m ≤ 4) ⌝ }
 {
-    let first = check_buffer_bytes(p, 1, one, k);
-    let Answer::Done = first else {
-        return first;
+    if in_words {
+        return 1;
+    }
+    4
+}
+
+// What is left to check of a call: nothing, since it is refused; or so many words of its first three buffers.
+enum Left {
+    Refused(Answer),
+    Reads(usize, usize, usize),
+}
+
+// Refusals 1 to 5, for bytes with 10 behind 4, of a call whose buffers have these lengths.
+fn check_shape(in_words: bool, kind: Kind, r: u64, n: u64, p: u64, are: [usize; 5]) -> Left
+    ensures { λ t. ⌜ Shaped (handedAs in_words) kind r n p are t ⌝ }
+{
+    let limits = check_size(in_words, r, n, p);
+    let Answer::Done = limits else {
+        return Left::Refused(limits);
     };
-    let second = check_buffer_bytes(p, 2, two, l);
-    let Answer::Done = second else {
-        return second;
+    let l = lengths_of(kind, r as usize, n as usize);
+    let exact = check_lengths(cells_of(in_words), l, are);
+    let Answer::Done = exact else {
+        return Left::Refused(exact);
     };
-    check_buffer_bytes(p, 3, three, m)
+    Left::Reads(l[0], l[1], third_read(kind, l[2]))
 }
 
 // Refusals 1 to 6, on words.
@@ -236,21 +247,19 @@ pub fn check_words(
         (buffers (now (one .entry)) (now (two .entry)) (now (three .entry)) (now (four .entry)) (now (five .entry))))
         a ⌝ }
 {
-    let limits = check_limits(r, n, p);
-    let Answer::Done = limits else {
-        return limits;
-    };
-    let l = lengths_of(kind, r as usize, n as usize);
-    let exact = check_lengths(
-        1,
-        l,
-        [one.len(), two.len(), three.len(), four.len(), five.len()],
-    );
-    let Answer::Done = exact else {
-        return exact;
-    };
-    let m = third_read(kind, l[2]);
-    check_reads_words(p as u32, one, l[0], two, l[1], three, m)
+    let are = [one.len(), two.len(), three.len(), four.len(), five.len()];
+    let left = check_shape(true, kind, r, n, p, are);
+    match left {
+        Left::Refused(a) => a,
+        Left::Reads(k, l, m) => {
+            let q = p as u32;
+            first_refusal(
+                check_buffer_words(q, 1, one, k),
+                check_buffer_words(q, 2, two, l),
+                check_buffer_words(q, 3, three, m),
+            )
+        }
+    }
 }
 
 // Refusals 1 to 6, on bytes, with 10 behind 4.
@@ -270,19 +279,17 @@ pub fn check_bytes(
         (buffers (now (one .entry)) (now (two .entry)) (now (three .entry)) (now (four .entry)) (now (five .entry))))
         a ⌝ }
 {
-    let limits = check_small(r, n, p);
-    let Answer::Done = limits else {
-        return limits;
-    };
-    let l = lengths_of(kind, r as usize, n as usize);
-    let exact = check_lengths(
-        4,
-        l,
-        [one.len(), two.len(), three.len(), four.len(), five.len()],
-    );
-    let Answer::Done = exact else {
-        return exact;
-    };
-    let m = third_read(kind, l[2]);
-    check_reads_bytes(p as u32, one, l[0], two, l[1], three, m)
+    let are = [one.len(), two.len(), three.len(), four.len(), five.len()];
+    let left = check_shape(false, kind, r, n, p, are);
+    match left {
+        Left::Refused(a) => a,
+        Left::Reads(k, l, m) => {
+            let q = p as u32;
+            first_refusal(
+                check_buffer_bytes(q, 1, one, k),
+                check_buffer_bytes(q, 2, two, l),
+                check_buffer_bytes(q, 3, three, m),
+            )
+        }
+    }
 }

@@ -1,30 +1,34 @@
 -- What the solving program prints for a text, by what reading it gives: a refusal's line, or what is printed for the
 -- job that it holds. A header that is brought is within the limits of a sheet.
 -- Assumes nothing.
-use mathlib.Core.Path.{_≡_, sym, ap, _∙_}
-use mathlib.Core.List.{List, _++_}
+use mathlib.Core.Path.{_≡_, sym, ap, subst, _∙_}
+use mathlib.Core.List.{List, [], _∷_, _++_}
 use Prim.Native.Nat.{ℕ, _-_}
 use native.Mathlib.Omega.{arith}
 use lib.IntN.{ℤ}
 use lib.ListN.{length}
+use Rattle.job.specs.declared.Kind.{Kind}
+use Rattle.job.specs.declared.Kind.the-variants.{Basis}
 use Rattle.job.specs.declared.Answer.{Answer}
 use Rattle.job.specs.Refusal.{Verdict, done, refused, Says, verdictOf}
-use Rattle.job.specs.Job.{bytes}
+use Rattle.job.specs.Job.{bytes, lengthsOf, readCount}
 use Rattle.job.specs.Rules.{limitRules, sizeRules}
 use Rattle.job.proofs.Says.{refused-not-done, says-tail, says-split}
 use Rattle.job.proofs.Accepted.{limits-of, small-of}
 use Rattle.text.specs.Put.{Put}
 use Rattle.header.specs.declared.Header.{Header}
+use Rattle.body.specs.JobLines.{readLengths}
 use Rattle.body.specs.Parts.{Small}
 use Rattle.sheet.specs.declared.Reading.{Reading}
 use Rattle.sheet.specs.declared.Reading.the-variants.{Done, Refused}
 use Rattle.sheet.specs.Sheet.{Sheet, FirstLine}
 use Rattle.sheet.specs.JobSheet.{jobForms}
 use Rattle.sheet.specs.Rules.{readVerdict, roomRules, openRules, lineRules, sheetRules}
+use Rattle.sheet.specs.Rooms.{FilledAll}
 use Rattle.sheet.specs.Read.{JobOutcome}
 use Rattle.sheet.proofs.Unique.{sheet-keeps, job-header}
 use Rattle.reply.specs.Reply.{refusalLine, fresh, Reply, Replied}
-use Rattle.reply.specs.Steps.{Refuses, Told}
+use Rattle.reply.specs.Steps.{Blank, Refuses, Told}
 
 -- the first line of a sheet decides its header
 sheet-first : {s : List ℕ} {h : Header} {z : ℕ → ℤ} → Sheet jobForms s h z → FirstLine jobForms s h
@@ -44,6 +48,21 @@ opened-small s h says =
       terms-least = l .terms-least;
       product = small-of (h .r) (h .n) (both .1);
     }
+
+-- a basis leaves room 3, which holds zeros
+pub read-third
+    : {s one two three : List ℕ} {x : Reading} → JobOutcome s fresh x (one ∷ two ∷ three ∷ []) → {h : Header}
+    → x ≡ Done h → h .kind ≡ Basis → Blank 2048 three
+unfolding readVerdict FilledAll readLengths readCount lengthsOf
+read-third {one = one} {two} {three} o {h} is basis =
+    let t = o .taken (ap readVerdict is) in
+    let g = t .header in
+    let brought = t .brought in
+    let same : g ≡ h = cc in
+    let kind : g .kind ≡ Basis = ap (λ (k : Header). k .kind) same ∙ basis in
+    let filled = subst (λ (k : Kind).
+    FilledAll (g .p) (t .numbers) 0 (readLengths k (g .r) (g .n)) fresh (one ∷ two ∷ three ∷ [])) kind (t .filled) in
+    record { zeros = filled .1 .1 .0 }
 
 module _ {s : List ℕ} {x : Reading} {rooms : List (List ℕ)} (o : JobOutcome s fresh x rooms) where
   -- a header that is brought is within the limits of a sheet

@@ -1,35 +1,21 @@
 -- What is printed for a text follows from the text: two replies are the same, and so is every byte of the buffer that
 -- they are put into.
 -- Assumes nothing.
-use mathlib.Core.Path.{_≡_, refl, sym, ap, subst, _∙_}
+use mathlib.Core.Path.{_≡_, refl, sym, ap, _∙_}
 use mathlib.Core.List.{List}
-use Prim.Native.Nat.{ℕ, _+_}
-use native.Mathlib.Omega.{arith}
-use lib.ListN.{length}
-use Rattle.job.specs.Refusal.{Verdict, done, refused, verdictOf}
-use Rattle.job.specs.Job.{Buffers}
-use Rattle.job.specs.declared.Answer.{Answer}
+use Prim.Native.Nat.{ℕ}
+use Rattle.job.specs.Refusal.{Verdict, done, refused}
 use Rattle.job.proofs.Unique.{outcome-unique}
-use Rattle.text.specs.Put.{Put}
-use Rattle.text.specs.Lines.{lines}
 use Rattle.header.specs.declared.Header.{Header}
-use Rattle.sheet.specs.declared.Reading.{Reading}
-use Rattle.sheet.specs.declared.Reading.the-variants.{Done}
 use Rattle.sheet.specs.Rules.{readVerdict}
 use Rattle.sheet.proofs.Unique.{job-outcome-unique}
-use Rattle.reply.specs.Reply.{Prints, Called, Reply, Replied}
+use Rattle.reply.specs.Reply.{Called, Reply, Replied}
 
--- one text is printed for a verdict and a sheet
-prints-unique : (v : Verdict) (sheet : List ℕ) {t u : List ℕ} → Prints v sheet t → Prints v sheet u → t ≡ u
-unfolding Prints
-prints-unique done sheet a b = a ∙ sym b
-prints-unique (refused number first second) sheet a b = a ∙ sym b
-
--- and for a job
+-- one text is printed for a job
 called-unique : {h : Header} {rooms : List (List ℕ)} {t u : List ℕ} → Called h rooms t → Called h rooms u → t ≡ u
-called-unique {u = u} f g =
+called-unique f g =
     let same = outcome-unique (f .outcome) (g .outcome) in
-    prints-unique _ _ (f .prints) (rw (sym (same .0), sym (same .1)) at (g .prints))
+    f .prints ∙ sym (rw (sym (same .0), sym (same .1)) at (g .prints))
 
 -- and for a text
 pub reply-unique : {s t u : List ℕ} → Reply s t → Reply s u → t ≡ u

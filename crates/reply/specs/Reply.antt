@@ -16,7 +16,6 @@ use Rattle.job.specs.Job.{Job, Buffers, buffers, words, carried, roomOf, length
 use Rattle.job.specs.Outcome.{Outcome}
 use Rattle.refusal.specs.Checked.{jobOf}
 use Rattle.text.specs.Decimal.{digits, digitsUpTo}
-use Rattle.text.specs.Lines.{lines}
 use Rattle.text.specs.Put.{Put}
 use Rattle.lines.specs.Forms.{numbered}
 use Rattle.header.specs.declared.Header.{Header}
@@ -24,7 +23,7 @@ use Rattle.sheet.specs.declared.Reading.{Reading}
 use Rattle.sheet.specs.declared.Reading.the-variants.{Done}
 use Rattle.sheet.specs.Rules.{readVerdict}
 use Rattle.sheet.specs.Read.{JobOutcome}
-use Rattle.result.specs.ResultSheet.{resultForms, resultNumbers}
+use Rattle.result.specs.ResultSheet.{resultText}
 
 -- the bytes of `refused`
 abbrev pub refusedWord : List ℕ
@@ -65,34 +64,32 @@ lentOf-example = refl
 abbrev pub jobIn : Header → List (List ℕ) → Job
 jobIn h rooms = jobOf (h .kind) (h .r) (h .n) (h .p) (lentOf (h .kind) (h .r) (h .n) rooms)
 
--- the buffers that are printed: y, or Y and Z
-unfoldable pub printedOf : Kind → Buffers → List (List ℕ)
-printedOf System s = s .four ∷ []
-printedOf Basis s = s .three ∷ s .four ∷ []
-printedOf Equation s = s .four ∷ []
+-- what is printed of the third and the fourth buffer: y, or Y and Z
+unfoldable pub printedOf : Kind → List ℕ → List ℕ → List (List ℕ)
+printedOf System three four = four ∷ []
+printedOf Basis three four = three ∷ four ∷ []
+printedOf Equation three four = four ∷ []
 
-printedOf-example
-    : printedOf Basis (buffers (1 ∷ []) (2 ∷ []) (3 ∷ []) (4 ∷ []) (5 ∷ [])) ≡ (3 ∷ []) ∷ (4 ∷ []) ∷ []
+printedOf-example : printedOf Basis (3 ∷ []) (4 ∷ []) ≡ (3 ∷ []) ∷ (4 ∷ []) ∷ []
 unfolding printedOf
 printedOf-example = refl
 
--- the text printed for a verdict is the result sheet, or the line of the refusal
-unfoldable pub Prints : Verdict → List ℕ → List ℕ → Type 0
-Prints done sheet t = t ≡ sheet
-Prints (refused number first second) sheet t = t ≡ refusalLine number first second
+-- the text printed for a verdict: the result sheet, or the line of the refusal
+unfoldable pub textFor : Verdict → List ℕ → List ℕ
+textFor done sheet = sheet
+textFor (refused number first second) sheet = refusalLine number first second
 
 -- 7 is printed in the place of a sheet
-prints-example : Prints (refused 7 0 0) (1 ∷ []) (refusalLine 7 0 0)
-unfolding Prints
-prints-example = refl
+textFor-example : textFor (refused 7 0 0) (1 ∷ []) ≡ refusalLine 7 0 0
+unfolding textFor
+textFor-example = refl
 
 -- the text t is what is printed for the job that stands in rooms
 pub record Called (h : Header) (rooms : List (List ℕ)) (t : List ℕ) : Type 0 where
   pub answer : Answer
   pub after : Buffers
   pub outcome : Outcome words (jobIn h rooms) answer after
-  pub prints
-      : Prints (verdictOf answer) (lines (resultForms h) (resultNumbers (h .p) (printedOf (h .kind) after)) 0) t
+  pub prints : t ≡ textFor (verdictOf answer) (resultText h (printedOf (h .kind) (after .three) (after .four)))
 
 -- the text t is what is printed for the text s
 pub record Reply (s t : List ℕ) : Type 0 where

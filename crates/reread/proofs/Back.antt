@@ -24,7 +24,7 @@ use Rattle.sheet.proofs.Outcomes.{limited-limits, limited-small}
 use Rattle.sheet.proofs.Unique.{sheet-outcome, outcome-silent}
 use Rattle.result.specs.declared.Written.{Written}
 use Rattle.result.specs.declared.Written.the-variants as written
-use Rattle.result.specs.ResultSheet.{resultForms, resultLengths, resultNumbers}
+use Rattle.result.specs.ResultSheet.{resultForms, resultLengths, resultNumbers, resultText}
 use Rattle.result.specs.Write.{writtenVerdict, writeRules, WriteOutcome}
 use Rattle.result.proofs.IsSheet.{written-limits, written-lengths, written-text, written-below, written-sheet}
 use Rattle.reread.specs.Read.{ResultOutcome}
@@ -119,7 +119,7 @@ module _ {s one two : List ℕ} {x : Reading} {after : List (List ℕ)} (o : Res
       let l = limited-limits (h .r) (h .n) (h .p) (silent .1) in
       omega (arith, l .terms-least, l .few)
 
-  same-text : lines (resultForms (found .header)) (resultNumbers (found .header .p) lent) 0 ≡ s
+  same-text : resultText (found .header) lent ≡ s
   same-text =
       let h = found .header in
       let z = found .numbers in
@@ -159,12 +159,12 @@ module _ {s one two : List ℕ} {x : Reading} {after : List (List ℕ)} (o : Res
     written-again = record {
       verdict = no-refusal;
       kept = λ a b c q. absurd (refused-not-done a b c (sym q));
+      brought = λ q. ap (λ (t : List ℕ). written.Done (length t)) (sym same-text);
       written = λ l q.
           let k : length s ≡ l = cc in
           let all = s ++ drop (length s) text in
           let put = put-first s text (omega (arith, silent .0 .1)) in
-          let sheet = lines (resultForms (found .header)) (resultNumbers (found .header .p) lent) 0 in
-          subst (λ (n : ℕ). Put 0 sheet text all n) k
+          subst (λ (n : ℕ). Put 0 (resultText (found .header) lent) text all n) k
           (subst (λ (t : List ℕ). Put 0 t text all (length s)) (sym same-text) put);
     }
 

@@ -1,10 +1,8 @@
 -- Result sheets: line 1, the numbers and how many there are, the sizes, and the two rooms.
 -- Assumes nothing.
 use mathlib.Core.Path.{_≡_, refl, sym, _∙_}
-use mathlib.Core.Logic.{_≢_}
 use mathlib.Core.List.{List, [], _∷_}
 use Prim.Native.Nat.{ℕ, _+_, _*_, _≤_}
-use native.Mathlib.Decide.{ℕ-discrete}
 use native.Mathlib.Omega.{arith}
 use lib.IntN.{ℤ}
 use lib.ListN.{length}
@@ -30,6 +28,7 @@ use Rattle.sheet.specs.Sheet.{Keeps}
 use Rattle.sheet.specs.Rules.{roomRules}
 use Rattle.sheet.specs.Rooms.{Filled, FilledAll}
 use Rattle.sheet.specs.Parts.{Led, Entered}
+use Rattle.sheet.proofs.Before.{room-exact}
 use Rattle.sheet.proofs.Headers.{one-header}
 use Rattle.sheet.proofs.Rooms.{filled-nothing}
 use Rattle.sheet.proofs.Outcomes.{entered-limits, entered-small}
@@ -166,12 +165,9 @@ module _ (one two : List ℕ) where
 pub rooms-roomy : (one two : List ℕ) → Says (roomRules (one ∷ two ∷ [])) done → Roomy one two
 unfolding roomRules lengthRules
 rooms-roomy one two s = record {
-  first = equal (length one) (says-head _ _ s);
-  second = equal (length two) (says-head _ _ (says-tail _ _ s));
+  first = room-exact (length one) (says-head _ _ s);
+  second = room-exact (length two) (says-head _ _ (says-tail _ _ s));
 }
-  where
-    equal : (n : ℕ) → ¬ (n ≢ 2048) → n ≡ 2048
-    equal n q = elim (ℕ-discrete n 2048) [ yes e ↦ e | no e ↦ absurd (q e) ]
 
 pub room-refused : (b : ℕ) → ¬ (verdictOf (Length b) ≡ done)
 unfolding verdictOf

@@ -1,7 +1,6 @@
 // Result sheets: the reader.
 use cursor::Cursor;
 use header::Header;
-use header::Opening;
 use job::Answer;
 use job::Kind;
 use lines::Numbers;
@@ -16,7 +15,7 @@ ghost use Rattle.job.specs.declared.Kind.the-variants.{Basis};
 ghost use Rattle.lines.specs.Steps.{nth, formOf, Read};
 ghost use Rattle.body.specs.Parts.{Small};
 ghost use Rattle.sheet.specs.Rooms.{Filled};
-ghost use Rattle.sheet.specs.Parts.{Opened, Entered, Bodied, Finished};
+ghost use Rattle.sheet.specs.Parts.{Entered, Bodied, Finished};
 ghost use Rattle.result.specs.ResultSheet.{resultWords, resultLines, resultForms, resultLengths};
 ghost use Rattle.reread.specs.Read.{ResultOutcome};
 ghost use Rattle.reread.specs.Parts.{Counted, Awaited, Roomy, Fillable};
@@ -40,21 +39,6 @@ fn count_words(kind: Kind, r: usize, n: usize) -> Counts
         },
         Kind::Equation => Counts { one: n, two: 0 },
     }
-}
-
-// Line 1 of a result sheet.
-fn open_result(s: &[u8]) -> Opening
-    ensures { λ r. ⌜ Opened resultForms resultWords (now (s .entry)) r ⌝ }
-{
-    let system = header::open_as(s, Kind::System, b"result\tsystem");
-    let Opening::Not = system else {
-        return system;
-    };
-    let basis = header::open_as(s, Kind::Basis, b"result\tbasis");
-    let Opening::Not = basis else {
-        return basis;
-    };
-    header::open_as(s, Kind::Equation, b"result\tequation")
 }
 
 // The lines of a basis behind line 1: Y, Z.
@@ -148,7 +132,8 @@ pub fn read_result(s: &[u8], one: &mut [u32], two: &mut [u32]) -> Reading
     if s.len() > 65536 {
         return Reading::Refused(Answer::Large);
     }
-    match sheet::begin(s, open_result(s)) {
+    let opening = sheet::open_kinds(s, b"result\tsystem", b"result\tbasis", b"result\tequation");
+    match sheet::begin(s, opening) {
         Start::At(h, c) => take_result(s, h, c, one, two),
         Start::Stop(answer) => answer,
     }

@@ -17,7 +17,7 @@ use Rattle.job.specs.Rules.{limitRules, sizeRules, lengthRules, wordRules, read
 use Rattle.job.proofs.Accepted.{Limits}
 use Rattle.job.proofs.Says.{says-head, says-tail, says-split}
 use Rattle.text.specs.Class.{Balanced}
-use Rattle.text.specs.Lines.{Within, lines, total, Ranged}
+use Rattle.text.specs.Lines.{Within, total, Ranged}
 use Rattle.text.specs.Put.{Put}
 use Rattle.text.proofs.Classes.{balanced-range}
 use Rattle.text.proofs.Lines.{ranged-append}
@@ -27,7 +27,14 @@ use Rattle.header.specs.Header.{header}
 use Rattle.sheet.specs.Sheet.{Sheet}
 use Rattle.result.specs.declared.Written.{Written}
 use Rattle.result.specs.declared.Written.the-variants.{Done}
-use Rattle.result.specs.ResultSheet.{balancedForm, resultLines, resultForms, resultLengths, resultNumbers}
+use Rattle.result.specs.ResultSheet.{
+  balancedForm,
+  resultLines,
+  resultForms,
+  resultLengths,
+  resultNumbers,
+  resultText,
+}
 use Rattle.result.specs.Write.{writtenVerdict, writeRules, WriteOutcome}
 use Rattle.result.specs.Print.{FirstOver}
 use Rattle.result.proofs.Checks.{wrongLength}
@@ -92,13 +99,13 @@ words-small p b s i (suc count) t (suc k) h =
 sheet-put
     : (kind : Kind) (r n p : ℕ) (lent : List (List ℕ)) {text after : List ℕ} {l : ℕ} → Limits r n p
     → ((k : ℕ) → getD (flatten lent) k 0 < p)
-    → Put 0 (lines (resultForms (header kind r n p)) (resultNumbers p lent) 0) text after l
+    → Put 0 (resultText (header kind r n p) lent) text after l
     → Sheet resultForms (take l after) (header kind r n p) (resultNumbers p lent)
 sheet-put kind r n p lent {l = l} limits below put =
     let z = resultNumbers p lent in
     let within : (k : ℕ) → InForm p n (z k) =
     λ k. balanced-form p n (z k) (balanced-range (getD (flatten lent) k 0) p (below k)) in
-    let whole = lines (resultForms (header kind r n p)) z 0 in
+    let whole = resultText (header kind r n p) lent in
     record {
       short = record {
         order = omega (arith, limits .order);

@@ -15,15 +15,22 @@ use Rattle.job.specs.declared.Kind.the-variants.{System, Basis, Equation}
 use Rattle.text.specs.Decimal.{digits, spell}
 use Rattle.text.specs.Class.{balanced}
 use Rattle.text.specs.Lines.{items, line, lines, total}
+use Rattle.text.specs.Put.{Put}
 use Rattle.text.proofs.Digits.{digits-small, digits-short}
 use Rattle.text.proofs.Lines.{lines-append}
 use Rattle.lines.specs.Forms.{numbered, rowForms, matrixForms}
 use Rattle.header.specs.Header.{header, wordOf, headerForm}
-use Rattle.result.specs.ResultSheet.{balancedForm, resultWords, numberAt}
-use Rattle.result.specs.Print.{lineRoom}
+use Rattle.result.specs.ResultSheet.{balancedForm, resultWords}
+use Rattle.result.specs.Print.{numberAt, lineRoom}
 
 pub digits-room : (x : ℕ) → x < 2 ^ 64 → length (digits x) ≤ 20
 digits-room x h = digits-short x 19 (omega arith)
+
+-- room for a field, and behind it
+pub field-room
+    : {at x e : ℕ} {before after : List ℕ} (more : ℕ) → x < 2 ^ 64 → at + (21 + more) ≤ length before
+    → Put at (9 ∷ digits x) before after e → e + more ≤ length after
+field-room {x = x} more small room put = omega (arith, put .end, put .long, digits-room x small)
 
 minus-room : (m : ℕ) → m < 2 ^ 64 → length (spell (negℤ (pos m))) ≤ 21
 minus-room zero h = omega (arith, digits-room 0 h)

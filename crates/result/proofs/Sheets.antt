@@ -21,10 +21,10 @@ use Rattle.result.specs.ResultSheet.{
   resultWords,
   resultLines,
   resultForms,
-  numberAt,
   resultNumbers,
+  resultText,
 }
-use Rattle.result.specs.Print.{Rows}
+use Rattle.result.specs.Print.{numberAt, Rows}
 use Rattle.result.proofs.Shift.{Same, lines-shift}
 
 -- line 1 and the lines behind it
@@ -65,11 +65,12 @@ pub vector-sheet
     : (kind : Kind) (r rows n p : ℕ) (y : List ℕ) → Rows kind r rows
     → let rest = rowForms (balancedForm p n) (121 ∷ []) 1 rows in
     (headerForm (resultWords kind) (header kind r n p) .head ++ (10 ∷ [])) ++ lines rest (numberAt p y) 0
-    ≡ lines (resultForms (header kind r n p)) (resultNumbers p (y ∷ [])) 0
+    ≡ resultText (header kind r n p) (y ∷ [])
 unfolding resultForms flatten
 vector-sheet kind r rows n p y e =
     let rest = rowForms (balancedForm p n) (121 ∷ []) 1 rows in
-    rw (append-nil y, vector-lines kind (balancedForm p n) r rows e)
+    let numbers : resultNumbers p (y ∷ []) ≡ numberAt p y = ap (λ (s : List ℕ). numberAt p s) (append-nil y) in
+    rw (numbers, vector-lines kind (balancedForm p n) r rows e)
     (header-lines (resultWords kind) (header kind r n p) rest (numberAt p y))
 
 -- the sheet of Y and Z
@@ -79,7 +80,7 @@ pub basis-sheet
     let second = matrixForms (balancedForm p n) (90 ∷ []) r 1 r in
     (headerForm (resultWords Basis) (header Basis r n p) .head ++ (10 ∷ []))
     ++ (lines first (numberAt p y) 0 ++ lines second (numberAt p z) 0)
-    ≡ lines (resultForms (header Basis r n p)) (resultNumbers p (y ∷ z ∷ [])) 0
+    ≡ resultText (header Basis r n p) (y ∷ z ∷ [])
 unfolding resultForms resultLines
 basis-sheet r n p y z e =
     let first = matrixForms (balancedForm p n) (89 ∷ []) r 1 r in

@@ -14,8 +14,8 @@ use Rattle.text.proofs.Lines.{items-snoc}
 use Rattle.text.proofs.Puts.{put-none, put-one, put-more, put-as}
 use Rattle.lines.proofs.Forms.{word-digit}
 use Rattle.lines.specs.Forms.{numbered, rowForms, matrixForms}
-use Rattle.result.specs.ResultSheet.{balancedForm, numberAt}
-use Rattle.result.specs.Print.{Ready, lineRoom}
+use Rattle.result.specs.ResultSheet.{balancedForm}
+use Rattle.result.specs.Print.{numberAt, Ready, lineRoom}
 use Rattle.result.proofs.Products.{stride}
 use Rattle.result.proofs.Forms.{rows-more, matrix-more}
 use Rattle.result.proofs.Room.{digits-room, items-room, rows-room, matrix-room}

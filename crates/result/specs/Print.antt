@@ -1,24 +1,28 @@
--- What the functions that print ask for, and what the tests of a writer find.
+-- A verdict as three numbers; what the functions that print ask for and print; what the tests of a writer find.
 -- Assumes nothing.
-use mathlib.Core.Path.{_≡_}
+use mathlib.Core.Path.{_≡_, refl}
 use mathlib.Core.List.{List}
 use Prim.Native.Nat.{ℕ, _+_, _*_, _≤_, _<_, _^_}
+use lib.IntN.{ℤ}
 use lib.ListN.{length, getD}
 use Rattle.job.specs.declared.Kind.{Kind}
 use Rattle.job.specs.declared.Kind.the-variants.{System, Basis, Equation}
-use Rattle.job.specs.declared.Answer.{Answer}
-use Rattle.job.specs.declared.Answer.the-variants.{
-  Done,
-  Order,
-  Terms,
-  Modulus,
-  TermsOverModulus,
-  Length,
-  Word,
-  Singular,
-  LeadingZero,
-  Large,
-}
+use Rattle.job.specs.Refusal.{Verdict, done, refused}
+use Rattle.text.specs.Class.{balanced}
+use Rattle.result.specs.declared.Places.{Places}
+
+-- a verdict's number and places; zeros for done
+unfoldable pub placesOf : Verdict → Places
+placesOf done = record { 0 = 0; 1 = 0; 2 = 0 }
+placesOf (refused number first second) = record { 0 = number; 1 = first; 2 = second }
+
+places-example : placesOf (refused 5 2 0) ≡ record { 0 = 5; 1 = 2; 2 = 0 }
+unfolding placesOf
+places-example = refl
+
+-- the number that is printed for the word of index k
+abbrev pub numberAt : ℕ → List ℕ → ℕ → ℤ
+numberAt p s k = balanced (getD s k 0) p
 
 -- count words from the index `from` on can be printed modulo p, and d has room for so many bytes from `at` on
 pub record Ready (p : ℕ) (s : List ℕ) (from count : ℕ) (d : List ℕ) (at bytes : ℕ) : Type 0 where
@@ -50,19 +54,6 @@ pub record BasisReady (r n p : ℕ) (y z d : List ℕ) : Type 0 where
   pub exact : length y ≡ r * (r * n)
   pub first : Ready p y 0 (r * (r * n)) d 79 (r * (r * lineRoom 3 n))
   pub second : Ready p z 0 (r * (r * n)) d (79 + r * (r * lineRoom 3 n)) (r * (r * lineRoom 3 n))
-
--- a refusal of 1 to 4 or 10
-abbrev pub OfLimits : Answer → Type 0
-OfLimits Order = Unit {0}
-OfLimits Terms = Unit {0}
-OfLimits Modulus = Unit {0}
-OfLimits TermsOverModulus = Unit {0}
-OfLimits Large = Unit {0}
-OfLimits Done = ⊥
-OfLimits (Length buffer) = ⊥
-OfLimits (Word buffer index) = ⊥
-OfLimits Singular = ⊥
-OfLimits LeadingZero = ⊥
 
 -- the first word that is p or more is at k, or there is none and k is the length
 pub record FirstOver (p : ℕ) (s : List ℕ) (k : ℕ) : Type 0 where

@@ -44,13 +44,13 @@ resultCounts Equation r n = n ∷ []
 abbrev pub resultLengths : Header → List ℕ
 resultLengths h = resultCounts (h .kind) (h .r) (h .n)
 
--- the number that is printed for the word of index k
-abbrev pub numberAt : ℕ → List ℕ → ℕ → ℤ
-numberAt p s k = balanced (getD s k 0) p
-
 -- the numbers of a result sheet: those of the words, one buffer after the other
 abbrev pub resultNumbers : ℕ → List (List ℕ) → ℕ → ℤ
-resultNumbers p lent = numberAt p (flatten lent)
+resultNumbers p lent k = balanced (getD (flatten lent) k 0) p
+
+-- the result sheet with a header, of the words of its buffers
+abbrev pub resultText : Header → List (List ℕ) → List ℕ
+resultText h lent = lines (resultForms h) (resultNumbers (h .p) lent) 0
 
 -- document 01's example: `result system 1 3 7`, `y 1 1 1 -3`
 example : List ℕ
@@ -58,6 +58,6 @@ example =
     114 ∷ 101 ∷ 115 ∷ 117 ∷ 108 ∷ 116 ∷ 9 ∷ 115 ∷ 121 ∷ 115 ∷ 116 ∷ 101 ∷ 109 ∷ 9 ∷ 49 ∷ 9 ∷ 51 ∷ 9 ∷ 55 ∷ 10 ∷
     121 ∷ 9 ∷ 49 ∷ 9 ∷ 49 ∷ 9 ∷ 49 ∷ 9 ∷ 45 ∷ 51 ∷ 10 ∷ []
 
-result-example : lines (resultForms (header System 1 3 7)) (resultNumbers 7 ((1 ∷ 1 ∷ 4 ∷ []) ∷ [])) 0 ≡ example
+result-example : resultText (header System 1 3 7) ((1 ∷ 1 ∷ 4 ∷ []) ∷ []) ≡ example
 unfolding example resultForms resultLines wordOf rowForms lines items digits digitsUpTo flatten
 result-example = refl

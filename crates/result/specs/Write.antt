@@ -5,35 +5,19 @@ use mathlib.Core.Path.{_≡_}
 use mathlib.Core.List.{List, [], _∷_, _++_}
 use Prim.Native.Nat.{ℕ}
 use lib.ListN.{length}
-use Rattle.job.specs.Refusal.{Verdict, done, refused, Rule, Says}
+use Rattle.job.specs.Refusal.{Verdict, done, refused, Rule, Says, verdictOf}
 use Rattle.job.specs.Job.{words, bytes}
 use Rattle.job.specs.Rules.{limitRules, sizeRules, lengthRules, readRules}
-use Rattle.text.specs.Lines.{lines}
 use Rattle.text.specs.Put.{Put}
 use Rattle.header.specs.declared.Header.{Header}
 use Rattle.result.specs.declared.Written.{Written}
-use Rattle.result.specs.declared.Written.the-variants.{
-  Done,
-  Order,
-  Terms,
-  Modulus,
-  TermsOverModulus,
-  Length,
-  Word,
-  Large,
-}
-use Rattle.result.specs.ResultSheet.{resultForms, resultLengths, resultNumbers}
+use Rattle.result.specs.declared.Written.the-variants.{Done, Refused}
+use Rattle.result.specs.ResultSheet.{resultLengths, resultText}
 
 -- document 01's number and places for each answer
 unfoldable pub writtenVerdict : Written → Verdict
-writtenVerdict (Done length) = done
-writtenVerdict Order = refused 1 0 0
-writtenVerdict Terms = refused 2 0 0
-writtenVerdict Modulus = refused 3 0 0
-writtenVerdict TermsOverModulus = refused 4 0 0
-writtenVerdict (Length buffer) = refused 5 buffer 0
-writtenVerdict (Word buffer index) = refused 6 buffer index
-writtenVerdict Large = refused 10 0 0
+writtenVerdict (Done l) = done
+writtenVerdict (Refused answer) = verdictOf answer
 
 -- all refusals of a writer, for a header, the buffers of words lent and the text lent
 unfoldable pub writeRules : Header → List (List ℕ) → List ℕ → List Rule
@@ -43,11 +27,11 @@ writeRules h lent text =
     ++ lengthRules words 1 (resultLengths h ++ (65536 ∷ [])) (lent ++ (text ∷ []))
     ++ readRules words (h .p) 1 (length lent) (resultLengths h) lent
 
--- a writer is refused by the first rule that holds, and then the text is what it was; or the sheet of the words stands
--- at the text's beginning, `length` is its length, and the bytes behind it are what they were
+-- a writer is refused by the first rule that holds, and then the text is what it was; or it is done and brings the
+-- sheet's length, the sheet stands at the text's beginning, and the bytes behind it are what they were
 pub record WriteOutcome (h : Header) (lent : List (List ℕ)) (text : List ℕ) (answer : Written) (after : List ℕ)
     : Type 0 where
   pub verdict : Says (writeRules h lent text) (writtenVerdict answer)
   pub kept : (number first second : ℕ) → writtenVerdict answer ≡ refused number first second → after ≡ text
-  pub written : (length : ℕ) → answer ≡ Done length
-      → Put 0 (lines (resultForms h) (resultNumbers (h .p) lent) 0) text after length
+  pub brought : writtenVerdict answer ≡ done → answer ≡ Done (length (resultText h lent))
+  pub written : (l : ℕ) → answer ≡ Done l → Put 0 (resultText h lent) text after l

@@ -1,4 +1,4 @@
-// Result sheets: the writer.
+// Result sheets: the writer. And the number and the places that an answer is told by.
 use job::Answer;
 use job::Kind;
 ghost use mathlib.Core.Path.{_≡_};
@@ -13,21 +13,37 @@ ghost use Rattle.text.specs.Lines.{items, line, lines};
 ghost use Rattle.text.specs.Put.{Put};
 ghost use Rattle.lines.specs.Forms.{numbered, rowForms, matrixForms};
 ghost use Rattle.header.specs.Header.{header, headerForm};
-ghost use Rattle.result.specs.ResultSheet.{balancedForm, resultWords, resultForms, numberAt, resultNumbers};
-ghost use Rattle.result.specs.Print.{Ready, lineRoom, Rows, VectorReady, BasisReady, OfLimits, FirstOver};
-ghost use Rattle.result.specs.Write.{writtenVerdict, WriteOutcome};
+ghost use Rattle.result.specs.ResultSheet.{balancedForm, resultWords, resultText};
+ghost use Rattle.result.specs.Print.{placesOf, numberAt, Ready, lineRoom, Rows, VectorReady, BasisReady};
+ghost use Rattle.result.specs.Print.{FirstOver};
+ghost use Rattle.result.specs.Write.{WriteOutcome};
 
 // What a writer of result sheets answers: done, with the text's length in bytes, or why not. `writtenVerdict` of specs/
 // gives document 01's number and places for each.
 pub enum Written {
     Done { length: usize },
-    Order,
-    Terms,
-    Modulus,
-    TermsOverModulus,
-    Length { buffer: u8 },
-    Word { buffer: u8, index: u32 },
-    Large,
+    Refused(Answer),
+}
+
+// Number, first place and second place.
+pub struct Places(pub u8, pub u8, pub u32);
+
+// The number and the places of an answer: 0 where not named, and three zeros for done.
+pub fn place(a: Answer) -> Places
+    ensures { λ q. ⌜ q ≡ placesOf (verdictOf a) ⌝ }
+{
+    match a {
+        Answer::Done => Places(0, 0, 0),
+        Answer::Order => Places(1, 0, 0),
+        Answer::Terms => Places(2, 0, 0),
+        Answer::Modulus => Places(3, 0, 0),
+        Answer::TermsOverModulus => Places(4, 0, 0),
+        Answer::Length { buffer } => Places(5, buffer, 0),
+        Answer::Word { buffer, index } => Places(6, buffer, index),
+        Answer::Singular => Places(7, 0, 0),
+        Answer::LeadingZero => Places(8, 0, 0),
+        Answer::Large => Places(10, 0, 0),
+    }
 }
 
 // The bytes h from `at` on.
@@ -44,12 +60,24 @@ pub fn put_bytes(d: &mut [u8], at: usize, h: &[u8]) -> usize
 }
 
 // A tab and the digits of x.
-pub fn put_field(d: &mut [u8], at: usize, x: u64) -> usize
+fn put_field(d: &mut [u8], at: usize, x: u64) -> usize
     requires { ⌜ at + 21 ≤ length (now d) ⌝ }
     ensures { λ r. ⌜ Put at (9 ∷ digits x) (now (d .entry)) (now (d .exit)) r ⌝ }
 {
     let a = text::put_byte(d, at, 9);
     text::put_natural(d, a, x)
+}
+
+// How a line of three numbers goes on behind its words, which end at `at`: the numbers and the line feed.
+pub fn put_three(d: &mut [u8], at: usize, x: u64, y: u64, z: u64) -> usize
+    requires { ⌜ at + 64 ≤ length (now d) ⌝ }
+    ensures { λ e. ⌜ Put at (numbered (numbered (numbered [] x) y) z ++ (10 ∷ []))
+        (now (d .entry)) (now (d .exit)) e ⌝ }
+{
+    let a = put_field(d, at, x);
+    let b = put_field(d, a, y);
+    let c = put_field(d, b, z);
+    text::put_byte(d, c, 10)
 }
 
 // A tab and the number of the class c modulo p.
@@ -168,16 +196,13 @@ fn put_header(d: &mut [u8], kind: Kind, r: u64, n: u64, p: u64) -> usize
         (now (d .entry)) (now (d .exit)) e ⌝ }
 {
     let a = put_lead(d, kind);
-    let b = put_field(d, a, r);
-    let c = put_field(d, b, n);
-    let e = put_field(d, c, p);
-    text::put_byte(d, e, 10)
+    put_three(d, a, r, n, p)
 }
 
 // The sheet of y, of so many rows.
 fn put_vector(d: &mut [u8], kind: Kind, rows: usize, r: u64, n: u64, p: u64, y: &[u32]) -> usize
     requires { ⌜ VectorReady kind r rows n p (now y) (now d) ⌝ }
-    ensures { λ e. ⌜ Put 0 (lines (resultForms (header kind r n p)) (resultNumbers p (now (y .entry) ∷ [])) 0)
+    ensures { λ e. ⌜ Put 0 (resultText (header kind r n p) (now (y .entry) ∷ []))
         (now (d .entry)) (now (d .exit)) e ⌝ }
 {
     let a = put_header(d, kind, r, n, p);
@@ -187,8 +212,7 @@ fn put_vector(d: &mut [u8], kind: Kind, rows: usize, r: u64, n: u64, p: u64, y: 
 // The sheet of Y and Z.
 fn put_basis(d: &mut [u8], r: u64, n: u64, p: u64, y: &[u32], z: &[u32]) -> usize
     requires { ⌜ BasisReady r n p (now y) (now z) (now d) ⌝ }
-    ensures { λ e. ⌜ Put 0
-        (lines (resultForms (header Basis r n p)) (resultNumbers p (now (y .entry) ∷ now (z .entry) ∷ [])) 0)
+    ensures { λ e. ⌜ Put 0 (resultText (header Basis r n p) (now (y .entry) ∷ now (z .entry) ∷ []))
         (now (d .entry)) (now (d .exit)) e ⌝ }
 {
     let order = r as usize;
@@ -197,20 +221,6 @@ fn put_basis(d: &mut [u8], r: u64, n: u64, p: u64, y: &[u32], z: &[u32]) -> usiz
     let a = put_header(d, Kind::Basis, r, n, p);
     let b = put_matrix(d, a, b'Y', order, y, terms, modulus);
     put_matrix(d, b, b'Z', order, z, terms, modulus)
-}
-
-// 1 to 4 and 10, as a writer says them.
-fn refuse_limits(limits: Answer) -> Written
-    requires { ⌜ OfLimits limits ⌝ }
-    ensures { λ w. ⌜ writtenVerdict w ≡ verdictOf limits ⌝ }
-{
-    match limits {
-        Answer::Order => Written::Order,
-        Answer::Terms => Written::Terms,
-        Answer::Modulus => Written::Modulus,
-        Answer::TermsOverModulus => Written::TermsOverModulus,
-        _ => Written::Large,
-    }
 }
 
 // The index of the first word that is p or more, or the length where there is none.
@@ -243,21 +253,21 @@ fn write_vector(
 {
     let limits = refusal::check_small(r, n, p);
     let Answer::Done = limits else {
-        return refuse_limits(limits);
+        return Written::Refused(limits);
     };
     let count = (rows * n) as usize;
     if y.len() != count {
-        return Written::Length { buffer: 1 };
+        return Written::Refused(Answer::Length { buffer: 1 });
     }
     if text.len() != 65536 {
-        return Written::Length { buffer: 2 };
+        return Written::Refused(Answer::Length { buffer: 2 });
     }
     let k = find_over(y, p as u32);
     if k < count {
-        return Written::Word {
+        return Written::Refused(Answer::Word {
             buffer: 1,
             index: k as u32,
-        };
+        });
     }
     let length = put_vector(text, kind, rows as usize, r, n, p, y);
     Written::Done { length }
@@ -286,31 +296,31 @@ pub fn write_basis(r: u64, n: u64, p: u64, y: &[u32], z: &[u32], text: &mut [u8]
 {
     let limits = refusal::check_small(r, n, p);
     let Answer::Done = limits else {
-        return refuse_limits(limits);
+        return Written::Refused(limits);
     };
     let count = (r * r * n) as usize;
     if y.len() != count {
-        return Written::Length { buffer: 1 };
+        return Written::Refused(Answer::Length { buffer: 1 });
     }
     if z.len() != count {
-        return Written::Length { buffer: 2 };
+        return Written::Refused(Answer::Length { buffer: 2 });
     }
     if text.len() != 65536 {
-        return Written::Length { buffer: 3 };
+        return Written::Refused(Answer::Length { buffer: 3 });
     }
     let k = find_over(y, p as u32);
     if k < count {
-        return Written::Word {
+        return Written::Refused(Answer::Word {
             buffer: 1,
             index: k as u32,
-        };
+        });
     }
     let l = find_over(z, p as u32);
     if l < count {
-        return Written::Word {
+        return Written::Refused(Answer::Word {
             buffer: 2,
             index: l as u32,
-        };
+        });
     }
     let length = put_basis(text, r, n, p, y, z);
     Written::Done { length }

@@ -33,13 +33,14 @@ use Rattle.cursor.specs.declared.Cursor.{Cursor}
 use Rattle.header.specs.declared.Header.{Header}
 use Rattle.header.specs.declared.Opening.{Opening}
 use Rattle.header.specs.declared.Opening.the-variants as opening
+use Rattle.sheet.specs.declared.Start.{Start}
 use Rattle.sheet.specs.declared.Start.the-variants as start
 use Rattle.sheet.specs.declared.Reading.the-variants.{Refused, Broken}
 use Rattle.header.specs.Header.{headerForm}
 use Rattle.sheet.specs.Sheet.{Keeps}
 use Rattle.sheet.specs.Rules.{readVerdict, roomRules, openRules}
 use Rattle.header.specs.Opened.{Opens, OpenedAs}
-use Rattle.sheet.specs.Parts.{RoomsChecked, Roomy, Led, Opened, Started, Starting}
+use Rattle.sheet.specs.Parts.{RoomsChecked, Roomy, Led, Opened, OpenedKinds, Started, Starting}
 
 -- rooms of another length
 module _ {a b c : ℕ} where
@@ -73,22 +74,23 @@ module _ {a b c : ℕ} where
             (says-past _ _ _ (λ q. q (g ∙ y)) (says-past _ _ _ (λ q. q (h ∙ z)) says-none)));
       }
 
+-- a room that nothing refuses
+pub room-exact : (n : ℕ) → ¬ (n ≢ 2048) → n ≡ 2048
+room-exact n q = elim (ℕ-discrete n 2048) [ yes e ↦ e | no e ↦ absurd (q e) ]
+
 -- rooms that nothing refuses
 pub rooms-roomy : (one two three : List ℕ) → Says (roomRules (one ∷ two ∷ three ∷ [])) done → Roomy one two three
 unfolding roomRules lengthRules
 rooms-roomy one two three s =
     let t = says-tail _ _ s in
     record {
-      first = equal (length one) (says-head _ _ s);
-      second = equal (length two) (says-head _ _ t);
-      third = equal (length three) (says-head _ _ (says-tail _ _ t));
+      first = room-exact (length one) (says-head _ _ s);
+      second = room-exact (length two) (says-head _ _ t);
+      third = room-exact (length three) (says-head _ _ (says-tail _ _ t));
     }
-  where
-    equal : (n : ℕ) → ¬ (n ≢ 2048) → n ≡ 2048
-    equal n q = elim (ℕ-discrete n 2048) [ yes e ↦ e | no e ↦ absurd (q e) ]
 
 -- a header found for one kind
-pub opened-is : (forms : Header → List Form) (lead : Kind → List ℕ) (s : List ℕ) (kind : Kind) (r : Opening)
+opened-is : (forms : Header → List Form) (lead : Kind → List ℕ) (s : List ℕ) (kind : Kind) (r : Opening)
     (h : Header) (c : Cursor) → r ≡ opening.Is h c → OpenedAs kind (lead kind) s r → Opened forms lead s r
 opened-is forms lead s kind (opening.Is g d) h c e o =
     subst (λ (k : Kind). Opens (lead k) s g d) (sym (o .0)) (o .1)
@@ -110,7 +112,7 @@ module _ {forms : Header → List Form} {lead : Kind → List ℕ} (led : Led fo
   }
 
   -- a header of the last kind, or none of any
-  pub opened-last : OpenedAs System (lead System) s opening.Not → OpenedAs Basis (lead Basis) s opening.Not
+  opened-last : OpenedAs System (lead System) s opening.Not → OpenedAs Basis (lead Basis) s opening.Not
       → (r : Opening) → OpenedAs Equation (lead Equation) s r → Opened forms lead s r
   opened-last a b (opening.Is h c) o = opened-is forms lead s Equation (opening.Is h c) h c refl o
   opened-last a b opening.Not o = λ h k. none h k (h .kind) refl
@@ -138,6 +140,26 @@ module _ {forms : Header → List Form} {lead : Kind → List ℕ} (led : Led fo
 
       limits-done : a ≡ Done → Started forms lead s (start.At h c)
       limits-done e = record { opens = o; says = opens-say done (judged-done j e) }
+
+-- the header of the first kind that has one, or none, for every sort with these first fields
+module _ {system basis equation s : List ℕ} where
+  module _ {r : Opening} {h : Header} {c : Cursor} (found : r ≡ opening.Is h c) where
+    pub kinds-first : OpenedAs System system s r → OpenedKinds system basis equation s r
+    kinds-first o = record { opened = λ forms lead led x y z. opened-is forms lead s System r h c found (rw x o) }
+
+    pub kinds-second : OpenedAs Basis basis s r → OpenedKinds system basis equation s r
+    kinds-second o = record { opened = λ forms lead led x y z. opened-is forms lead s Basis r h c found (rw y o) }
+
+  pub kinds-last : {r : Opening} → OpenedAs System system s opening.Not → OpenedAs Basis basis s opening.Not
+      → OpenedAs Equation equation s r → OpenedKinds system basis equation s r
+  kinds-last {r} a b o =
+      record { opened = λ forms lead led x y z. opened-last led s (rw x a) (rw y b) r (rw z o) }
+
+-- what line 1 and its limits say, of one sort
+pub kinds-started
+    : {forms : Header → List Form} {lead : Kind → List ℕ} {s : List ℕ} {o : Opening} {x : Start} → Led forms lead
+    → OpenedKinds (lead System) (lead Basis) (lead Equation) s o → Starting s o x → Started forms lead s x
+kinds-started led opened begun = begun .started _ _ led (opened .opened _ _ led refl refl refl)
 
 -- too many bytes
 pub start-large : {forms : Header → List Form} (lead : Kind → List ℕ) {s : List ℕ} → 65536 < length s

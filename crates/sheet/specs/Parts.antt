@@ -7,6 +7,7 @@ use Prim.Native.Nat.{ℕ, _+_, _-_, _≤_, _<_}
 use lib.IntN.{ℤ}
 use lib.ListN.{length, take}
 use Rattle.job.specs.declared.Kind.{Kind}
+use Rattle.job.specs.declared.Kind.the-variants.{System, Basis, Equation}
 use Rattle.job.specs.declared.Answer.{Answer}
 use Rattle.job.specs.Refusal.{done, refused, Says, verdictOf}
 use Rattle.text.specs.Lines.{Form}
@@ -37,6 +38,11 @@ pub record Led (forms : Header → List Form) (lead : Kind → List ℕ) : Type 
 abbrev pub Opened : (Header → List Form) → (Kind → List ℕ) → List ℕ → Opening → Type 0
 Opened forms lead s (opening.Is h c) = Opens (lead (h .kind)) s h c
 Opened forms lead s opening.Not = (h : Header) → ¬ Keeps forms s h 1
+
+-- so for every sort whose line 1 begins with these fields, by the kind
+pub record OpenedKinds (system basis equation s : List ℕ) (o : Opening) : Type 0 where
+  pub opened : (forms : Header → List Form) (lead : Kind → List ℕ) → Led forms lead → lead System ≡ system
+      → lead Basis ≡ basis → lead Equation ≡ equation → Opened forms lead s o
 
 -- a header that nothing refuses, and the place behind it
 pub record Entered (forms : Header → List Form) (lead : Kind → List ℕ) (s : List ℕ) (h : Header) (c : Cursor) : Type 0

@@ -1,4 +1,4 @@
-// Job sheets: the reader.
+// Job sheets: the reader. Its public parts serve every sort of sheets.
 use body::Lengths;
 use cursor::Cursor;
 use header::Header;
@@ -18,7 +18,7 @@ ghost use Rattle.sheet.specs.Read.{JobOutcome};
 ghost use Rattle.sheet.specs.Rooms.{Filled};
 ghost use Rattle.sheet.specs.Parts.{
   Entered,
-  Opened,
+  OpenedKinds,
   Starting,
   Inside,
   Bodied,
@@ -49,19 +49,21 @@ pub enum Body {
     Broken(usize),
 }
 
-// Line 1 of a job sheet.
-fn open_job(s: &[u8]) -> Opening
-    ensures { λ r. ⌜ Opened jobForms wordOf (now (s .entry)) r ⌝ }
+// Line 1 of a sheet of one of the three kinds, each of which has its own first fields.
+pub fn open_kinds(s: &[u8], system: &[u8], basis: &[u8], equation: &[u8]) -> Opening
+    ensures { λ o. ⌜
+        OpenedKinds (now (system .entry)) (now (basis .entry)) (now (equation .entry)) (now (s .entry)) o
+        ⌝ }
 {
-    let system = header::open_as(s, Kind::System, b"system");
-    let Opening::Not = system else {
-        return system;
+    let first = header::open_as(s, Kind::System, system);
+    let Opening::Not = first else {
+        return first;
     };
-    let basis = header::open_as(s, Kind::Basis, b"basis");
-    let Opening::Not = basis else {
-        return basis;
+    let second = header::open_as(s, Kind::Basis, basis);
+    let Opening::Not = second else {
+        return second;
     };
-    header::open_as(s, Kind::Equation, b"equation")
+    header::open_as(s, Kind::Equation, equation)
 }
 
 // 9 for line 1, 1 to 4, and 10 for r*r*N, where line 1 is what the opening says.
@@ -204,7 +206,8 @@ pub fn read_job(s: &[u8], one: &mut [u32], two: &mut [u32], three: &mut [u32]) -
     if s.len() > 65536 {
         return Reading::Refused(Answer::Large);
     }
-    match begin(s, open_job(s)) {
+    let opening = open_kinds(s, b"system", b"basis", b"equation");
+    match begin(s, opening) {
         Start::At(h, c) => take_job(s, h, c, one, two, three),
         Start::Stop(answer) => answer,
     }

@@ -16,7 +16,7 @@ extern "C" {
 
 /// How products of matrices are taken.
 #[derive(Clone, Copy)]
-pub enum Way {
+enum Way {
     /// `nmod_poly_mat_mul`, which chooses by itself.
     Matrix = 0,
     /// `nmod_poly_mullow` for each pair of entries.
@@ -27,25 +27,27 @@ pub enum Way {
     WordForWord = 3,
 }
 
-/// A basis job in FLINT's own form.
+/// A basis job in FLINT's own form, and how it is done.
 pub struct Basis {
+    way: Way,
     job: *mut Job,
     words: usize,
 }
 
 impl Basis {
-    pub fn new(r: usize, n: usize, p: u64, a: &[u32], start: &[u32]) -> Basis {
+    fn new(way: Way, r: usize, n: usize, p: u64, a: &[u32], start: &[u32]) -> Basis {
         assert!(a.len() == r * r * n && start.len() == r * r);
         // The C side reads just these words and keeps copies.
         let job = unsafe { flint_basis_new(r as u64, n as u64, p, a.as_ptr(), start.as_ptr()) };
         Basis {
+            way,
             job,
             words: r * r * n,
         }
     }
 
-    pub fn run(&mut self, way: Way) {
-        unsafe { flint_basis_run(self.job, way as c_int) }
+    pub fn run(&mut self) {
+        unsafe { flint_basis_run(self.job, self.way as c_int) }
     }
 
     pub fn result(&self) -> (Vec<u32>, Vec<u32>) {
@@ -59,4 +61,11 @@ impl Drop for Basis {
     fn drop(&mut self) {
         unsafe { flint_basis_free(self.job) }
     }
+}
+
+/// The job in all ways: three of multiplying, and the formulas word for word.
+pub fn all_ways(r: usize, n: usize, p: u64, a: &[u32], start: &[u32]) -> Vec<Basis> {
+    let ways = [Way::Matrix, Way::Entries, Way::Packed, Way::WordForWord];
+    let job = |&way| Basis::new(way, r, n, p, a, start);
+    ways.iter().map(job).collect()
 }

@@ -3,7 +3,7 @@
 
 mod bytes;
 mod equation;
-#[cfg(feature = "flint")]
+#[cfg_attr(not(feature = "flint"), path = "no_flint.rs")]
 mod flint;
 mod halving;
 mod naive;

@@ -1,13 +1,23 @@
--- `bytejobs::solve_bytes` meets its contract: a short work room is that of a short job.
+-- `bytejobs::solve_bytes` meets its contract: a short work room is that of a short job, for which the short arrays are
+-- long enough.
 -- Assumes nothing.
 use borrow.Author.Needs.{needs}
 use Rattle.bytejobs.proofs.Rooms.{sized-short}
 use Rattle.bytejobs.proofs.solve_bytes.Statement.{statement}
 use Rattle.bytejobs.proofs.solve_bytes.Tie as tie
 
-solve-short-requires : tie.Need-solve-short-requires
-solve-short-requires c κs =
-    let tested = c .before .before in
+slice-aggregate-solve-within : tie.Need-slice-aggregate-solve-within
+slice-aggregate-solve-within c = search needs
+
+slice-aggregate-solve-within-2 : tie.Need-slice-aggregate-solve-within-2
+slice-aggregate-solve-within-2 c = search needs
+
+slice-aggregate-solve-within-3 : tie.Need-slice-aggregate-solve-within-3
+slice-aggregate-solve-within-3 c = search needs
+
+solve-within-requires : tie.Need-solve-within-requires
+solve-within-requires c κs =
+    let tested = c .before .before .before .before .before in
     sized-short (tested .before .before .before .before .before .before .pre) (tested .if1 .taken)
 
 same-length : tie.Need-same-length
@@ -19,8 +29,17 @@ same-length-2 c = search needs
 returns : tie.Need-returns
 returns c = search needs
 
-solve-long-requires : tie.Need-solve-long-requires
-solve-long-requires c κs = search needs
+slice-aggregate-solve-within-4 : tie.Need-slice-aggregate-solve-within-4
+slice-aggregate-solve-within-4 c = search needs
+
+slice-aggregate-solve-within-5 : tie.Need-slice-aggregate-solve-within-5
+slice-aggregate-solve-within-5 c = search needs
+
+slice-aggregate-solve-within-6 : tie.Need-slice-aggregate-solve-within-6
+slice-aggregate-solve-within-6 c = search needs
+
+solve-within-requires-2 : tie.Need-solve-within-requires-2
+solve-within-requires-2 c κs = search needs
 
 same-length-3 : tie.Need-same-length-3
 same-length-3 c = search needs
@@ -35,11 +54,17 @@ pub solve-bytes-spec : {M : Type 1} → statement M
 solve-bytes-spec =
     tie.close
     (tie.spec
-    solve-short-requires
+    slice-aggregate-solve-within
+    slice-aggregate-solve-within-2
+    slice-aggregate-solve-within-3
+    solve-within-requires
     same-length
     same-length-2
     returns
-    solve-long-requires
+    slice-aggregate-solve-within-4
+    slice-aggregate-solve-within-5
+    slice-aggregate-solve-within-6
+    solve-within-requires-2
     same-length-3
     same-length-4
     returns-2)

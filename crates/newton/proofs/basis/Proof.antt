@@ -5,15 +5,14 @@ use mathlib.Core.Path.{_∙_}
 use Prim.Native.Nat.{ℕ}
 use lib.ListN.{length-replicate}
 use borrow.Author.Tests.{not-true, not-false}
-use Rattle.job.specs.Refusal.{done, Says}
 use Rattle.job.specs.Job.{Job, buffers, words}
 use Rattle.job.specs.declared.Kind.the-variants.{Basis}
-use Rattle.job.specs.Rules.{checkRules}
+use Rattle.job.proofs.Says.{answer-other}
 use Rattle.job.proofs.Accepted.{Accepted, accepted}
+use Rattle.job.proofs.Outcomes.{checks-refused}
 use Rattle.refusal.specs.Checked.{jobOf}
 use Rattle.refusal.proofs.Judged.{judged-done}
-use Rattle.newton.proofs.Outcomes.{checks-refused, modulus-small, startable, outcome-singular}
-use Rattle.newton.proofs.Outcomes.{ready, outcome-done}
+use Rattle.newton.proofs.Outcomes.{modulus-small, startable, basis-singular, ready, basis-done}
 use native.Mathlib.Omega.{arith}
 use borrow.Author.Needs.{needs}
 use Rattle.newton.proofs.basis.Statement.{statement}
@@ -35,7 +34,7 @@ same-length-3 : tie.Need-same-length-3
 same-length-3 c = search needs
 
 returns : tie.Need-returns
-returns c = checks-refused _ (c .before .check-words .ensures) (c .match .keys2)
+returns c = checks-refused (answer-other _ (c .match .keys2)) (c .before .check-words .ensures .says)
 
 -- the entry, from the place before the checks
 abbrev entry : tie.After-check-words-arg2 → tie.Start
@@ -47,23 +46,20 @@ jobAt c =
     let s = entry (c .before .before .before .before) .args in
     jobOf Basis (s .r) (s .n) (s .p) (buffers (s .a .now) (s .y0 .now) (s .y .now) (s .z .now) (s .work .now))
 
-silent : (c : tie.After-enum-told) → Says (checkRules words (jobAt c)) done
-unfolding jobAt
-silent c = judged-done (c .before .before .check-words .ensures) (c .enum-told .given .1)
-
 admitted : (c : tie.After-enum-told) → Accepted words (jobAt c)
-admitted c = accepted words (jobAt c) (silent c)
+unfolding jobAt
+admitted c = accepted words _ (judged-done (c .before .before .check-words .ensures) (c .enum-told .given .1))
 
 cast-invert-start : tie.Need-cast-invert-start
 unfolding jobAt
-cast-invert-start c = omega (arith, modulus-small (admitted c) (silent c) .half)
+cast-invert-start c = omega (arith, modulus-small (admitted c .limits) .half)
 
 slice-aggregate-invert-start : tie.Need-slice-aggregate-invert-start
 slice-aggregate-invert-start c = search needs
 
 invert-start-requires : tie.Need-invert-start-requires
 unfolding jobAt
-invert-start-requires c κs = startable (admitted (c .before)) (silent (c .before))
+invert-start-requires c κs = startable (admitted (c .before))
 
 same-length-4 : tie.Need-same-length-4
 same-length-4 c = search needs
@@ -78,20 +74,20 @@ returns-2 : tie.Need-returns-2
 unfolding jobAt
 returns-2 c =
     let told = c .before .before .before .before in
-    outcome-singular (admitted told) (silent told) (c .before .before .invert-start .ensures)
+    basis-singular (admitted told) (c .before .before .invert-start .ensures)
     (not-true _ (c .if1 .taken))
 
 cast-make-modulus : tie.Need-cast-make-modulus
 unfolding jobAt
 cast-make-modulus c =
     let told = c .before .before .before .before in
-    omega (arith, modulus-small (admitted told) (silent told) .half)
+    omega (arith, modulus-small (admitted told .limits) .half)
 
 make-modulus-requires : tie.Need-make-modulus-requires
 unfolding jobAt
 make-modulus-requires c κs =
     let told = c .before .before .before .before in
-    modulus-small (admitted told) (silent told)
+    modulus-small (admitted told .limits)
 
 slice-aggregate-run-basis : tie.Need-slice-aggregate-run-basis
 slice-aggregate-run-basis c = search needs
@@ -103,7 +99,7 @@ run-basis-requires c κs =
     let tried = made .before in
     let inverted = tried .before .before in
     let told = inverted .before .before in
-    ready (admitted told) (silent told) (inverted .invert-start .ensures) (not-false _ (tried .if1 .left))
+    ready (admitted told) (inverted .invert-start .ensures) (not-false _ (tried .if1 .left))
     (made .make-modulus .ensures) (inverted .invert-start .kept .1 .1 .1 .0 ∙ length-replicate {A = ℕ} 128 0)
 
 same-length-7 : tie.Need-same-length-7
@@ -123,7 +119,7 @@ returns-3 c =
     let tried = made .before in
     let inverted = tried .before .before in
     let told = inverted .before .before in
-    outcome-done (admitted told) (silent told) (inverted .invert-start .ensures) (not-false _ (tried .if1 .left))
+    basis-done (admitted told) (inverted .invert-start .ensures) (not-false _ (tried .if1 .left))
     (made .make-modulus .ensures) (ran .run-basis .kept .1 .1 .1 .1 .1 .1 .0)
     (ran .run-basis .kept .1 .1 .1 .1 .1 .1 .1 .0) (ran .run-basis .kept .1 .1 .1 .1 .1 .1 .1 .1 .0)
     (ran .run-basis .ensures)

@@ -1,6 +1,7 @@
 -- `newton::find_basis` meets its contract: the room is filled, and the rounds are made.
 -- Assumes nothing.
-use Rattle.newton.proofs.Places.{square-few, size-few, matrix-inside, start-spreads, inverse-spreads}
+use Rattle.newton.proofs.Sizes.{square-few, size-few}
+use Rattle.newton.proofs.Places.{matrix-inside, start-spreads, inverse-spreads}
 use Rattle.newton.proofs.Places.{room-started, basis-placed}
 use native.Mathlib.Omega.{arith}
 use borrow.Author.Needs.{needs}
@@ -8,10 +9,12 @@ use Rattle.newton.proofs.find_basis.Statement.{statement}
 use Rattle.newton.proofs.find_basis.Tie as tie
 
 mul-square : tie.Need-mul-square
-mul-square c = omega (arith, square-few (c .before .before .before .before .pre))
+mul-square c = omega (arith, square-few (c .before .before .before .before .pre .order))
 
 mul-m : tie.Need-mul-m
-mul-m c = omega (arith, size-few (c .before .before .before .before .pre))
+mul-m c =
+    let given = c .before .before .before .before .pre in
+    omega (arith, size-few (given .order) (given .terms))
 
 clear-requires : tie.Need-clear-requires
 clear-requires c κs = search needs
@@ -34,7 +37,8 @@ mul-spread : tie.Need-mul-spread
 mul-spread c =
     let copied = c .before .before .before .before .before .before in
     let cleared = copied .before .before .before .before in
-    omega (arith, size-few (cleared .before .before .before .before .before .before .pre))
+    let given = cleared .before .before .before .before .before .before .pre in
+    omega (arith, size-few (given .order) (given .terms))
 
 spread-requires-2 : tie.Need-spread-requires-2
 spread-requires-2 c κs =

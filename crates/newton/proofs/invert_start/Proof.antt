@@ -1,13 +1,14 @@
 -- `newton::invert_start` meets its contract: Y0 is copied, and then inverted.
 -- Assumes nothing.
-use Rattle.newton.proofs.Starts.{square-few, start-inside, start-square, start-inverted}
+use Rattle.newton.proofs.Sizes.{square-few}
+use Rattle.newton.proofs.Starts.{start-inside, start-square, start-inverted}
 use native.Mathlib.Omega.{arith}
 use borrow.Author.Needs.{needs}
 use Rattle.newton.proofs.invert_start.Statement.{statement}
 use Rattle.newton.proofs.invert_start.Tie as tie
 
 mul-copy : tie.Need-mul-copy
-mul-copy c = omega (arith, square-few (c .before .before .before .pre))
+mul-copy c = omega (arith, square-few (c .before .before .before .pre .order))
 
 copy-requires : tie.Need-copy-requires
 copy-requires c κs = start-inside (c .before .before .before .pre)

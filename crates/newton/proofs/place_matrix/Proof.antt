@@ -1,23 +1,23 @@
 -- `newton::place_matrix` meets its contract: the room is cleared, and A and two identities are put in.
 -- Assumes nothing.
-use Rattle.newton.proofs.Matrices.{square-few, size-few, step-few, matrix-inside, solution-spreads}
-use Rattle.newton.proofs.Matrices.{inverse-spreads, matrix-placed}
+use Rattle.newton.proofs.Sizes.{square-few, size-few, step-few}
+use Rattle.newton.proofs.Matrices.{matrix-inside, solution-spreads, inverse-spreads, matrix-placed}
 use native.Mathlib.Omega.{arith}
 use borrow.Author.Needs.{needs}
 use Rattle.newton.proofs.place_matrix.Statement.{statement}
 use Rattle.newton.proofs.place_matrix.Tie as tie
 
 mul-m : tie.Need-mul-m
-mul-m c = omega (arith, square-few (c .before .before .pre))
+mul-m c = omega (arith, square-few (c .before .before .pre .order))
 
 mul-m-2 : tie.Need-mul-m-2
-mul-m-2 c = omega (arith, size-few (c .before .before .pre))
+mul-m-2 c = omega (arith, size-few (c .before .before .pre .order) (c .before .before .pre .terms))
 
 add-step : tie.Need-add-step
 add-step c = search needs
 
 mul-step : tie.Need-mul-step
-mul-step c = omega (arith, step-few (c .before .before .pre))
+mul-step c = omega (arith, step-few (c .before .before .pre .order) (c .before .before .pre .terms))
 
 clear-requires : tie.Need-clear-requires
 clear-requires c κs = search needs
@@ -47,7 +47,8 @@ mul-spread c =
     let first = c .before .before .before in
     let copied = first .before .before .before .before .before in
     let cleared = copied .before .before .before .before in
-    omega (arith, size-few (cleared .before .before .before .before .pre))
+    let given = cleared .before .before .before .before .pre in
+    omega (arith, size-few (given .order) (given .terms))
 
 spread-requires-2 : tie.Need-spread-requires-2
 spread-requires-2 c κs =

@@ -2,10 +2,12 @@
 -- Assumes nothing.
 use Rattle.job.specs.Job.{buffers, words}
 use Rattle.job.specs.declared.Kind.the-variants.{System}
+use Rattle.job.proofs.Says.{answer-other}
 use Rattle.job.proofs.Accepted.{Accepted, accepted}
+use Rattle.job.proofs.Outcomes.{checks-refused}
 use Rattle.refusal.specs.Checked.{jobOf}
 use Rattle.refusal.proofs.Judged.{judged-done}
-use Rattle.newton.proofs.Outcomes.{checks-refused, system-modulus, system-ready, system-done}
+use Rattle.newton.proofs.Outcomes.{modulus-small, system-ready, system-done}
 use native.Mathlib.Omega.{arith}
 use borrow.Author.Needs.{needs}
 use Rattle.newton.proofs.system.Statement.{statement}
@@ -24,7 +26,7 @@ same-length-2 : tie.Need-same-length-2
 same-length-2 c = search needs
 
 returns : tie.Need-returns
-returns c = checks-refused _ (c .before .check-words .ensures) (c .match .keys2)
+returns c = checks-refused (answer-other _ (c .match .keys2)) (c .before .check-words .ensures .says)
 
 -- the entry, from the place before the checks
 abbrev entry : tie.After-check-words-arg2 → tie.Start
@@ -38,10 +40,10 @@ admitted : (c : tie.After-enum-told)
 admitted c = accepted words _ (judged-done (c .before .before .check-words .ensures) (c .enum-told .given .1))
 
 cast-make-modulus : tie.Need-cast-make-modulus
-cast-make-modulus c = omega (arith, system-modulus (admitted c) .half)
+cast-make-modulus c = omega (arith, modulus-small (admitted c .limits) .half)
 
 make-modulus-requires : tie.Need-make-modulus-requires
-make-modulus-requires c κs = system-modulus (admitted c)
+make-modulus-requires c κs = modulus-small (admitted c .limits)
 
 run-system-requires : tie.Need-run-system-requires
 run-system-requires c κs =
@@ -58,10 +60,7 @@ returns-2 : tie.Need-returns-2
 returns-2 c =
     let ran = c .before .before .before .before in
     let made = ran .before .before .before in
-    let told = made .before in
-    system-done (admitted told)
-    (judged-done (told .before .before .check-words .ensures) (told .enum-told .given .1))
-    (made .make-modulus .ensures) (ran .run-system .kept .1 .1 .1 .1 .1 .1 .0)
+    system-done (admitted (made .before)) (made .make-modulus .ensures) (ran .run-system .kept .1 .1 .1 .1 .1 .1 .0)
     (ran .run-system .kept .1 .1 .1 .1 .1 .1 .1 .0) (ran .run-system .ensures)
 
 pub system-spec : {M : Type 1} → statement M

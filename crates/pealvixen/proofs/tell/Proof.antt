@@ -1,13 +1,14 @@
 -- `pealvixen::tell` meets its contract, answer by answer.
 -- Assumes nothing.
-use mathlib.Core.Path.{_≡_, sym, ap, _∙_}
+use mathlib.Core.Path.{sym, ap, _∙_}
 use Prim.Native.Nat.{ℕ, _<_}
 use native.Mathlib.Omega.{arith}
 use borrow.Author.Needs.{needs}
 use Rattle.header.specs.declared.Header.{Header}
 use Rattle.pealvixen.specs.Packing.{packed}
 use Rattle.pealvixen.specs.declared.SheetRead.{SheetRead}
-use Rattle.pealvixen.specs.Sheets.{refusedSheet, told, LineFits}
+use Rattle.pealvixen.specs.Sheets.{refusedSheet, told}
+use Rattle.pealvixen.specs.Steps.{LineFits}
 use Rattle.pealvixen.proofs.tell.Statement.{statement}
 use Rattle.pealvixen.proofs.tell.Tie as tie
 

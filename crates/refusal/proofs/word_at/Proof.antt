@@ -5,14 +5,11 @@ use Rattle.job.specs.Job.{wordAt}
 use Rattle.refusal.proofs.word_at.Statement.{statement}
 use Rattle.refusal.proofs.word_at.Tie as tie
 
-mul-word-of : tie.Need-mul-word-of
-mul-word-of c = search needs
+mul-at : tie.Need-mul-at
+mul-at c = search needs
 
 shared-slice-read-word-of : tie.Need-shared-slice-read-word-of
 shared-slice-read-word-of c = search needs
-
-mul-word-of-2 : tie.Need-mul-word-of-2
-mul-word-of-2 c = search needs
 
 add-word-of : tie.Need-add-word-of
 add-word-of c = search needs
@@ -20,17 +17,11 @@ add-word-of c = search needs
 shared-slice-read-word-of-2 : tie.Need-shared-slice-read-word-of-2
 shared-slice-read-word-of-2 c = search needs
 
-mul-word-of-3 : tie.Need-mul-word-of-3
-mul-word-of-3 c = search needs
-
 add-word-of-2 : tie.Need-add-word-of-2
 add-word-of-2 c = search needs
 
 shared-slice-read-word-of-3 : tie.Need-shared-slice-read-word-of-3
 shared-slice-read-word-of-3 c = search needs
-
-mul-word-of-4 : tie.Need-mul-word-of-4
-mul-word-of-4 c = search needs
 
 add-word-of-3 : tie.Need-add-word-of-3
 add-word-of-3 c = search needs
@@ -49,15 +40,12 @@ pub word-at-spec : {M : Type 1} → statement M
 word-at-spec =
     tie.close
     (tie.spec
-    mul-word-of
+    mul-at
     shared-slice-read-word-of
-    mul-word-of-2
     add-word-of
     shared-slice-read-word-of-2
-    mul-word-of-3
     add-word-of-2
     shared-slice-read-word-of-3
-    mul-word-of-4
     add-word-of-3
     shared-slice-read-word-of-4
     word-of-requires

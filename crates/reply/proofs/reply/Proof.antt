@@ -1,9 +1,9 @@
 -- `reply::reply` meets its contract, by what reading the text gives.
 -- Assumes nothing.
-use mathlib.Core.Path.{ap}
+use mathlib.Core.Path.{refl, ap}
 use borrow.Author.Needs.{needs}
 use Rattle.sheet.specs.Rules.{readVerdict}
-use Rattle.reply.proofs.Reading.{read-small, replied-called, replied-refused, replied-answer}
+use Rattle.reply.proofs.Reading.{read-small, read-third, replied-called, replied-refused, replied-answer}
 use Rattle.reply.proofs.reply.Statement.{statement}
 use Rattle.reply.proofs.reply.Tie as tie
 
@@ -31,13 +31,22 @@ slice-aggregate-answer-job-2 c = search needs
 slice-aggregate-answer-job-3 : tie.Need-slice-aggregate-answer-job-3
 slice-aggregate-answer-job-3 c = search needs
 
+slice-aggregate-answer-job-4 : tie.Need-slice-aggregate-answer-job-4
+slice-aggregate-answer-job-4 c = search needs
+
+slice-aggregate-answer-job-5 : tie.Need-slice-aggregate-answer-job-5
+slice-aggregate-answer-job-5 c = search needs
+
 answer-job-requires : tie.Need-answer-job-requires
 answer-job-requires c κs =
-    let known = c .before .before .before .before .before in
+    let known = c .before .before .before .before .before .before .before in
     let read = known .before .before .before .before .before in
     record {
       small = read-small (read .read-job .ensures) (known .h .given .1);
       rooms = record { first = search needs; second = search needs; third = search needs };
+      third = read-third (read .read-job .ensures) (known .h .given .1);
+      fourth = record { zeros = refl };
+      scratch = record { zeros = refl };
       room = search needs;
     }
 
@@ -55,9 +64,11 @@ put-refusal-requires c κs = search needs
 
 returns : tie.Need-returns
 returns c =
-    let known = c .before .before .before .before .before .before in
+    let called = c .before .before .before in
+    let handed = called .before in
+    let known = handed .before .before .before .before .before .before .before in
     let read = known .before .before .before .before .before in
-    replied-called (read .read-job .ensures) (known .h .given .1) (c .answer-job .ensures)
+    replied-called (read .read-job .ensures) (known .h .given .1) (called .answer-job .ensures)
 
 returns-2 : tie.Need-returns-2
 returns-2 c =
@@ -84,6 +95,8 @@ reply-spec =
     slice-aggregate-answer-job
     slice-aggregate-answer-job-2
     slice-aggregate-answer-job-3
+    slice-aggregate-answer-job-4
+    slice-aggregate-answer-job-5
     answer-job-requires
     enum-known-answer
     refuse-requires

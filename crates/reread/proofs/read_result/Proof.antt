@@ -3,9 +3,10 @@
 use mathlib.Core.List.{[], _∷_}
 use borrow.Author.Needs.{needs}
 use Rattle.job.specs.Refusal.{done, Says}
+use Rattle.header.specs.Header.{wordOf}
 use Rattle.sheet.specs.Rules.{roomRules}
 use Rattle.sheet.specs.Parts.{Started}
-use Rattle.sheet.proofs.Before.{start-large}
+use Rattle.sheet.proofs.Before.{kinds-started, start-large}
 use Rattle.sheet.proofs.Outcomes.{outcome-rooms, outcome-stop, outcome-taken}
 use Rattle.result.specs.ResultSheet.{resultWords, resultForms}
 use Rattle.reread.proofs.Results.{result-led, room-first, room-second, rooms-done, room-refused}
@@ -34,29 +35,42 @@ no-room c =
 returns-3 : tie.Need-returns-3
 returns-3 c = outcome-stop resultWords (no-room (c .before)) (start-large resultWords (c .if3 .taken))
 
-open-result-requires : tie.Need-open-result-requires
-open-result-requires c κs = search needs
+slice-aggregate-open-kinds : tie.Need-slice-aggregate-open-kinds
+slice-aggregate-open-kinds c = search needs
+
+slice-aggregate-open-kinds-2 : tie.Need-slice-aggregate-open-kinds-2
+slice-aggregate-open-kinds-2 c = search needs
+
+slice-aggregate-open-kinds-3 : tie.Need-slice-aggregate-open-kinds-3
+slice-aggregate-open-kinds-3 c = search needs
+
+open-kinds-requires : tie.Need-open-kinds-requires
+open-kinds-requires c κs = search needs
 
 begin-requires : tie.Need-begin-requires
-begin-requires c κs = c .before .if3 .left
+begin-requires c κs = c .before .before .before .before .if3 .left
 
 enum-known-h : tie.Need-enum-known-h
 enum-known-h c = search needs
 
+-- the rooms, before line 1 is read
+abbrev rooms : tie.After-open-kinds → tie.Else2
+rooms c = c .before .before .before .before .before
+
 -- what line 1 and its limits say
 begun
     : (c : tie.After-begin) →
-    let r = c .before .before .before in
-    let a = r .before .before .before .before .before .args in
+    let a = rooms (c .before) .before .before .before .before .before .args in
     Started resultForms resultWords (a .s .now) (c .begin .result)
-begun c = c .begin .ensures .started resultForms resultWords result-led (c .before .open-result .ensures)
+unfolding wordOf
+begun c = kinds-started result-led (c .before .open-kinds .ensures) (c .begin .ensures)
 
 take-result-requires : tie.Need-take-result-requires
 take-result-requires c κs =
     let found = c .before .before .before in
     let start = found .before .before in
-    let rooms = start .before .before .before in
-    (rw (found .h .given .1) at (begun start), record { first = rooms .before .if1 .left; second = rooms .if2 .left })
+    let r = rooms (start .before) in
+    (rw (found .h .given .1) at (begun start), record { first = r .before .if1 .left; second = r .if2 .left })
 
 enum-known-answer : tie.Need-enum-known-answer
 enum-known-answer c = search needs
@@ -72,14 +86,14 @@ returns-4 c =
     let take = c .before .before .before .before in
     let found = take .before .before .before .before in
     let start = found .before .before in
-    outcome-taken resultWords (no-room (start .before .before .before)) result-led
+    outcome-taken resultWords (no-room (rooms (start .before))) result-led
     (rw (found .h .given .1) at (begun start)) (take .take-result .ensures)
 
 returns-5 : tie.Need-returns-5
 returns-5 c =
     let found = c .before in
     let start = found .before .before in
-    outcome-stop resultWords (no-room (start .before .before .before)) (rw (found .answer .given .1) at (begun start))
+    outcome-stop resultWords (no-room (rooms (start .before))) (rw (found .answer .given .1) at (begun start))
 
 pub read-result-spec : {M : Type 1} → statement M
 read-result-spec =
@@ -88,7 +102,10 @@ read-result-spec =
     returns
     returns-2
     returns-3
-    open-result-requires
+    slice-aggregate-open-kinds
+    slice-aggregate-open-kinds-2
+    slice-aggregate-open-kinds-3
+    open-kinds-requires
     begin-requires
     enum-known-h
     take-result-requires

@@ -9,7 +9,7 @@ use Rattle.header.specs.Header.{wordOf}
 use Rattle.sheet.specs.JobSheet.{jobForms}
 use Rattle.sheet.specs.Rules.{roomRules}
 use Rattle.sheet.specs.Parts.{Started}
-use Rattle.sheet.proofs.Before.{rooms-roomy, start-large}
+use Rattle.sheet.proofs.Before.{rooms-roomy, kinds-started, start-large}
 use Rattle.sheet.proofs.Outcomes.{job-led, outcome-rooms, outcome-stop, outcome-taken}
 use Rattle.sheet.proofs.read_job.Statement.{statement}
 use Rattle.sheet.proofs.read_job.Tie as tie
@@ -42,28 +42,41 @@ rooms-done c =
 returns-2 : tie.Need-returns-2
 returns-2 c = outcome-stop wordOf (rooms-done (c .before)) (start-large wordOf (c .if1 .taken))
 
-open-job-requires : tie.Need-open-job-requires
-open-job-requires c κs = search needs
+slice-aggregate-open-kinds : tie.Need-slice-aggregate-open-kinds
+slice-aggregate-open-kinds c = search needs
+
+slice-aggregate-open-kinds-2 : tie.Need-slice-aggregate-open-kinds-2
+slice-aggregate-open-kinds-2 c = search needs
+
+slice-aggregate-open-kinds-3 : tie.Need-slice-aggregate-open-kinds-3
+slice-aggregate-open-kinds-3 c = search needs
+
+open-kinds-requires : tie.Need-open-kinds-requires
+open-kinds-requires c κs = search needs
 
 begin-requires : tie.Need-begin-requires
-begin-requires c κs = c .before .if1 .left
+begin-requires c κs = c .before .before .before .before .if1 .left
 
 enum-known-h : tie.Need-enum-known-h
 enum-known-h c = search needs
 
+-- the rooms, before line 1 is read
+abbrev rooms : tie.After-open-kinds → tie.After-enum-told
+rooms c = c .before .before .before .before .before
+
 -- what line 1 and its limits say
 begun
     : (c : tie.After-begin) →
-    let r = c .before .before .before in
-    let a = r .before .before .before .before .before .before .before .args in
+    let a = rooms (c .before) .before .before .before .before .before .before .before .args in
     Started jobForms wordOf (a .s .now) (c .begin .result)
-begun c = c .begin .ensures .started jobForms wordOf job-led (c .before .open-job .ensures)
+unfolding wordOf
+begun c = kinds-started job-led (c .before .open-kinds .ensures) (c .begin .ensures)
 
 take-job-requires : tie.Need-take-job-requires
 take-job-requires c κs =
     let found = c .before .before .before .before in
     let start = found .before .before in
-    let r = start .before .before .before in
+    let r = rooms (start .before) in
     let a = r .before .before .before .before .before .before .before .args in (
       rw (found .h .given .1) at (begun start),
       rooms-roomy (a .one .now) (a .two .now) (a .three .now) (rooms-done r),
@@ -86,14 +99,14 @@ returns-3 c =
     let take = c .before .before .before .before .before .before in
     let found = take .before .before .before .before .before in
     let start = found .before .before in
-    let r = start .before .before .before in
+    let r = rooms (start .before) in
     outcome-taken wordOf (rooms-done r) job-led (rw (found .h .given .1) at (begun start)) (take .take-job .ensures)
 
 returns-4 : tie.Need-returns-4
 returns-4 c =
     let found = c .before in
     let start = found .before .before in
-    let r = start .before .before .before in
+    let r = rooms (start .before) in
     outcome-stop wordOf (rooms-done r) (rw (found .answer .given .1) at (begun start))
 
 pub read-job-spec : {M : Type 1} → statement M
@@ -104,7 +117,10 @@ read-job-spec =
     enum-told
     returns
     returns-2
-    open-job-requires
+    slice-aggregate-open-kinds
+    slice-aggregate-open-kinds-2
+    slice-aggregate-open-kinds-3
+    open-kinds-requires
     begin-requires
     enum-known-h
     take-job-requires
