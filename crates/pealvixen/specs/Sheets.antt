@@ -17,7 +17,7 @@ use Rattle.pealvixen.specs.declared.SheetRead.{SheetRead}
 use Rattle.pealvixen.specs.declared.SheetWritten.{SheetWritten}
 use Rattle.pealvixen.specs.Packing.{packed}
 
-abbrev pub kindNumber : Kind → ℕ
+unfoldable pub kindNumber : Kind → ℕ
 kindNumber System = 1
 kindNumber Basis = 2
 kindNumber Equation = 3

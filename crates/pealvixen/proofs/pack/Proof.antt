@@ -1,7 +1,8 @@
 -- `pealvixen::pack` meets its contract: the number and the places of the answer, packed.
 -- Assumes nothing.
-use mathlib.Core.Path.{_≡_, refl, ap, _∙_}
-use Prim.Native.Nat.{ℕ, _+_, _*_}
+use mathlib.Core.Path.{_≡_, refl, ap}
+use Prim.Native.Nat.{_+_, _*_}
+use native.Mathlib.Omega.{arith}
 use borrow.Author.Needs.{needs}
 use Rattle.job.specs.Refusal.{Verdict, done, refused, verdictOf}
 use Rattle.result.specs.declared.Places.{Places}
@@ -10,13 +11,11 @@ use Rattle.pealvixen.specs.Packing.{packed}
 use Rattle.pealvixen.proofs.pack.Statement.{statement}
 use Rattle.pealvixen.proofs.pack.Tie as tie
 
-abbrev code : Places → ℕ
-code q = q .0 + 256 * q .1 + 4294967296 * q .2
-
-packed-code : (v : Verdict) → code (placesOf v) ≡ packed v
+packed-places
+    : (v : Verdict) → let q = placesOf v in packed v ≡ q .0 + 256 * q .1 + 4294967296 * q .2
 unfolding placesOf packed
-packed-code done = refl
-packed-code (refused number first second) = refl
+packed-places done = refl
+packed-places (refused number first second) = refl
 
 place-requires : tie.Need-place-requires
 place-requires c κs = search needs
@@ -45,7 +44,11 @@ add-result-2 c = search needs
 returns : tie.Need-returns
 returns c =
     let placed = c .before .before .before in
-    ap code (placed .place .ensures) ∙ packed-code (verdictOf (placed .before .args .a))
+    let e = placed .place .ensures in
+    let number = ap (λ (q : Places). q .0) e in
+    let first = ap (λ (q : Places). q .1) e in
+    let second = ap (λ (q : Places). q .2) e in
+    omega (arith, packed-places (verdictOf (placed .before .args .a)))
 
 pub pack-spec : {M : Type 1} → statement M
 pack-spec =
