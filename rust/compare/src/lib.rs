@@ -5,10 +5,22 @@
 use pealvixen::lent::{self, Cell};
 use pealvixen::Method;
 use reference::jobs::{ByteJob, WordJob};
-use reference::random::WriterCall;
+use reference::random::{Random, WriterCall, SEED};
 use reference::sheets::{self, rooms_after, text_after};
 use reference::{Answer, Kind};
 use std::fmt::Debug;
+
+/// The generator of a test, each of which has a number of its own. The seed is PEALVIXEN_SEED where that is set, and else
+/// the second program's.
+pub fn random(test: u64) -> Random {
+    let seed = match std::env::var("PEALVIXEN_SEED") {
+        Ok(text) => text
+            .parse()
+            .expect("PEALVIXEN_SEED is a whole number below 2^64"),
+        Err(_) => SEED,
+    };
+    Random::new(seed.wrapping_add(test))
+}
 
 /// The packed answer that the library must give: number + 2^8 * first place + 2^32 * second place, and 0 for done.
 pub fn packed<T>(answer: &Answer<T>) -> u64 {

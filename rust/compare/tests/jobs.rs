@@ -4,7 +4,7 @@ use compare::Tally;
 use pealvixen::{Basis, Method, Room, System};
 use reference::jobs::{lengths, WordJob};
 use reference::random::{any_byte_job, any_job, damage_job, good_job_of, sound_job};
-use reference::random::{Bounds, Random, DAMAGES, QUICK, SEED};
+use reference::random::{Bounds, DAMAGES, QUICK};
 use reference::worked::worked;
 use reference::Kind;
 
@@ -34,7 +34,7 @@ fn worked_jobs() {
 #[test]
 fn sound_jobs() {
     let (mut words, mut bytes) = Default::default();
-    let mut random = Random::new(SEED);
+    let mut random = compare::random(0);
     for round in 0..4500 {
         let kind = Kind::ALL[round % 3];
         let job = good_job_of(&mut random, kind, QUICK);
@@ -47,7 +47,7 @@ fn sound_jobs() {
 #[test]
 fn small_primes_to_the_last_term() {
     let (mut words, mut bytes) = Default::default();
-    let mut random = Random::new(SEED + 1);
+    let mut random = compare::random(1);
     for kind in Kind::ALL {
         for p in [2, 3, 5, 7, 11, 13, 17] {
             for n in 1..=p {
@@ -97,7 +97,7 @@ fn all_words_at_their_largest() {
 #[test]
 fn long_jobs() {
     let (mut words, mut bytes) = Default::default();
-    let mut random = Random::new(SEED + 2);
+    let mut random = compare::random(2);
     for kind in Kind::ALL {
         for (r, n) in [
             (1, 4096),
@@ -133,7 +133,7 @@ fn long_jobs() {
 #[test]
 fn the_largest_basis() {
     let (r, n) = (8, 4096);
-    let mut random = Random::new(SEED + 7);
+    let mut random = compare::random(7);
     let job = sound_job(&mut random, Kind::Basis, r as u64, n as u64, LARGEST);
     let (a, y0) = (&job.buffers[0], &job.buffers[1]);
     let (wide_r, wide_n) = (r as u64, n as u64);
@@ -193,7 +193,7 @@ fn the_largest_basis() {
 #[test]
 fn any_jobs() {
     let (mut words, mut bytes): (Tally, Tally) = Default::default();
-    let mut random = Random::new(SEED + 3);
+    let mut random = compare::random(3);
     for _ in 0..6000 {
         words.words(&any_job(&mut random, QUICK));
         bytes.bytes(&any_byte_job(&mut random, QUICK));
@@ -209,7 +209,7 @@ fn any_jobs() {
 #[test]
 fn two_damages_at_once() {
     let (mut words, mut bytes) = Default::default();
-    let mut random = Random::new(SEED + 4);
+    let mut random = compare::random(4);
     for kind in Kind::ALL {
         for first in DAMAGES {
             for second in DAMAGES {
@@ -231,7 +231,7 @@ fn two_damages_at_once() {
 #[test]
 fn every_length_a_little_off() {
     let (mut words, mut bytes): (Tally, Tally) = Default::default();
-    let mut random = Random::new(SEED + 5);
+    let mut random = compare::random(5);
     for kind in Kind::ALL {
         for (r, n, p) in [
             (1, 1, 2),
@@ -269,7 +269,7 @@ fn every_length_a_little_off() {
 #[test]
 fn every_word_too_large() {
     let (mut words, mut bytes) = Default::default();
-    let mut random = Random::new(SEED + 6);
+    let mut random = compare::random(6);
     for kind in Kind::ALL {
         for (r, n, p) in [(1, 2, 2), (2, 3, 3), (3, 4, 257), (2, 5, LARGEST)] {
             let job = sound_job(&mut random, kind, r, n, p);

@@ -8,7 +8,7 @@ use reference::random::{
 use reference::random::{
     good_job_of, good_result_sheet, good_writer_call, plain_job_sheet, random_job_sheet,
 };
-use reference::random::{room_lengths, Bounds, Random, QUICK, SEED};
+use reference::random::{room_lengths, Bounds, Random, QUICK};
 use reference::sheets::{read_job, read_result, solve_sheet, ROOM, TEXT};
 use reference::worked::worked;
 use reference::{Answer, Kind};
@@ -49,7 +49,7 @@ fn worked_jobs_by_sheets() {
 #[test]
 fn round_trips() {
     let (mut jobs, mut results, mut writers) = <(Tally, Tally, Tally)>::default();
-    let mut random = Random::new(SEED + 20);
+    let mut random = compare::random(20);
     for round in 0..1500 {
         let bounds = if round % 10 == 0 { WHOLE } else { QUICK };
         let job = good_job_of(&mut random, Kind::ALL[round % 3], bounds);
@@ -85,7 +85,7 @@ fn round_trips() {
 #[test]
 fn random_and_damaged_sheets() {
     let (mut jobs, mut results) = <(Tally, Tally)>::default();
-    let mut random = Random::new(SEED + 21);
+    let mut random = compare::random(21);
     for round in 0..9000 {
         let text = match round % 4 {
             0 => any_sheet(&mut random, WHOLE),
@@ -110,7 +110,7 @@ fn random_and_damaged_sheets() {
 #[test]
 fn writer_calls() {
     let mut tally = Tally::default();
-    let mut random = Random::new(SEED + 22);
+    let mut random = compare::random(22);
     for round in 0..6000 {
         let bounds = if round % 10 == 0 { WHOLE } else { QUICK };
         let call = any_writer_call(&mut random, bounds);
@@ -124,7 +124,7 @@ fn writer_calls() {
 
 /// Small sheets of every kind, job and result.
 fn small_sheets() -> Vec<Vec<u8>> {
-    let mut random = Random::new(SEED + 23);
+    let mut random = compare::random(23);
     let mut sheets = Vec::new();
     for (kind, r, n, p) in [
         (Kind::System, 1, 3, 7),
@@ -292,7 +292,7 @@ fn numbers_at_every_edge() {
 #[test]
 fn the_longest_sheets() {
     let mut tally = Tally::default();
-    let mut random = Random::new(SEED + 24);
+    let mut random = compare::random(24);
     for length in [TEXT - 1, TEXT, TEXT + 1, TEXT + 2, 2 * TEXT] {
         for byte in *b"\t\n0 a" {
             read_both(&mut tally, &vec![byte; length]);
