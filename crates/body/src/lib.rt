@@ -1,4 +1,6 @@
 // The lines of a job sheet behind line 1.
+#![tactic(auto)]
+
 ghost use Rattle.std.specs.Prelude.{[], ◌∷◌, ◌+◌, ◌*◌, ◌≤◌};
 ghost use Rattle.lines.specs.Forms.{row_forms};
 ghost use Rattle.lines.specs.Steps.{form_of, Read};
@@ -9,7 +11,7 @@ use job::Kind;
 use lines::{Numbers, Step};
 
 // The words of the buffers that a job reads.
-#[derive(Drop)]
+#[derive(Clone, Copy)]
 pub struct Lengths {
     pub one: usize,
     pub two: usize,

@@ -1,6 +1,8 @@
 // The jobs of document 01 on bytes. A job that fits is decoded into words, solved by the job on words, and its results
 // are encoded; the job on words makes the checks. What does not fit is refused by the checks on bytes. The rooms of
 // words are local arrays; a short job gets short ones, so that it does not pay for clearing long ones.
+#![tactic(auto)]
+
 ghost use Rattle.std.specs.Prelude.{◌≡◌, ◌<◌, length};
 ghost use Rattle.job.specs.declared.Kind.TheVariants.{System, Basis, Equation};
 ghost use Rattle.job.specs.Job.{buffers, words, bytes};
@@ -11,7 +13,7 @@ ghost use Rattle.bytejobs.specs.Solvers.{kind_of, read_of, Roomy, Sized, Fitted,
 use job::{Answer, Kind};
 
 // A job on words: its kind, and the method.
-#[derive(Drop)]
+#[derive(Clone, Copy)]
 enum Solver {
     SystemHalving,
     SystemNewton,

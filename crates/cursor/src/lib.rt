@@ -1,9 +1,11 @@
 // A place in a text, lent to the one function that moves it.
+#![tactic(auto)]
+
 ghost use Rattle.std.specs.Prelude.{◌≡◌, ◌+◌, ◌<◌, ◌^◌};
 ghost use Rattle.cursor.specs.Moves.{field_past, line_past, place_past};
 
 // A place in the text: bytes passed, lines passed, and tabs passed in the line.
-#[derive(Drop)]
+#[derive(Clone, Copy)]
 pub struct Cursor {
     pub byte: usize,
     pub line: usize,

@@ -1,4 +1,6 @@
 // Single equations a_r y^(r) + .. + a_1 y' + a_0 y = b, solved as the system of y, y', .., y^(r-1).
+#![tactic(auto)]
+
 ghost use Rattle.std.specs.Prelude.{◌≡◌, length};
 ghost use Rattle.room.specs.Room.{words_from, Inside, Put, Zeros};
 ghost use Rattle.job.specs.Job.{buffers, words};
@@ -163,7 +165,7 @@ fn check(
 }
 
 // How the system of an equation is solved.
-#[derive(Drop)]
+#[derive(Clone, Copy)]
 enum Method {
     Halving,
     Newton,

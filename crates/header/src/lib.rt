@@ -1,4 +1,6 @@
 // Line 1 of a sheet: what it says, and the place behind it.
+#![tactic(auto)]
+
 ghost use Rattle.std.specs.Prelude.{◌≡◌, pos};
 ghost use Rattle.text.specs.Lines.{Within};
 ghost use Rattle.header.specs.Opened.{Tens, Named, OpenedAs};
@@ -8,7 +10,7 @@ use job::Kind;
 use lines::{Numbers, Step};
 
 // What line 1 of a sheet says.
-#[derive(Drop)]
+#[derive(Clone, Copy)]
 pub struct Header {
     pub kind: Kind,
     pub r: u64,
@@ -17,7 +19,7 @@ pub struct Header {
 }
 
 // What line 1 says, and the place behind it.
-#[derive(Drop)]
+#[derive(Clone, Copy)]
 pub enum Opening {
     Is(Header, Cursor),
     Not,

@@ -1,4 +1,6 @@
 // Lines, read one after the other by a cursor.
+#![tactic(auto)]
+
 ghost use Rattle.std.specs.Prelude.{◌≡◌, [], ◌∷◌, ◌+◌, ◌*◌, ◌≤◌, ◌<◌, ◌^◌, length};
 ghost use Rattle.lines.specs.Forms.{numbered, row_forms, matrix_forms};
 ghost use Rattle.lines.specs.Steps.{form_of, Placed, Field, Headed, Itemed, Ready, Read};
@@ -7,7 +9,7 @@ use cursor::Cursor;
 use text::Signed;
 
 // What follows the head of a line: so many numbers, each from -low to high.
-#[derive(Drop)]
+#[derive(Clone, Copy)]
 pub struct Numbers {
     pub count: usize,
     pub low: u64,
@@ -15,21 +17,21 @@ pub struct Numbers {
 }
 
 // The place behind some given bytes.
-#[derive(Drop)]
+#[derive(Clone, Copy)]
 pub enum Head {
     Is(Cursor),
     Not,
 }
 
 // A tab and a number, and the place behind them.
-#[derive(Drop)]
+#[derive(Clone, Copy)]
 pub enum Item {
     Is(i64, Cursor),
     Not,
 }
 
 // The place behind some lines, or the number of the first that is broken, from 1.
-#[derive(Drop)]
+#[derive(Clone, Copy)]
 pub enum Step {
     Next(Cursor),
     Broken(usize),

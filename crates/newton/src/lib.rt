@@ -1,4 +1,6 @@
 // The jobs that the Newton solver does: a basis of solutions with its inverse, and a system by such a basis.
+#![tactic(auto)]
+
 ghost use Rattle.std.specs.Prelude.{◌≡◌, ◌*◌, length};
 ghost use Rattle.job.specs.declared.Kind.TheVariants.{Basis, System};
 ghost use Rattle.job.specs.Job.{buffers, words};

@@ -1,4 +1,6 @@
 // Buffers of bytes, four to a word, low byte first: read as words, written from words, cleared, measured.
+#![tactic(auto)]
+
 ghost use Rattle.std.specs.Prelude.{◌≡◌, ◌+◌, ◌*◌, ◌≤◌, length};
 ghost use Rattle.prime.specs.Test.{Decides};
 ghost use Rattle.room.specs.Room.{Zeros};

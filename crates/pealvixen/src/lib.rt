@@ -1,5 +1,7 @@
 // What other languages call: the jobs of document 01, on words and on bytes, and the readers and writers of sheets. The
 // answer comes back as one number, `packed` of specs/.
+#![tactic(auto)]
+
 ghost use Rattle.std.specs.Prelude.{◌≡◌, [], ◌∷◌};
 ghost use Rattle.job.specs.Refusal.{verdict_of};
 ghost use Rattle.job.specs.Job.{buffers, words, bytes};
@@ -246,7 +248,7 @@ pub extern "C" fn pealvixen_equation_newton_bytes(
 
 // What a reader of sheets tells: the answer as one number, and what line 1 says, or zeros where the sheet is refused.
 #[repr(C)]
-#[derive(Drop)]
+#[derive(Clone, Copy)]
 pub struct SheetRead {
     pub answer: u64,
     pub kind: u64,
@@ -327,7 +329,7 @@ pub extern "C" fn pealvixen_read_result(text: &[u8], one: &mut [u32], two: &mut 
 
 // What a writer of sheets tells: the answer as one number, and the text's length in bytes, or 0 where it is refused.
 #[repr(C)]
-#[derive(Drop)]
+#[derive(Clone, Copy)]
 pub struct SheetWritten {
     pub answer: u64,
     pub length: u64,

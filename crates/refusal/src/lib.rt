@@ -1,5 +1,7 @@
 // The checks that every call on buffers makes first: document 01's refusals 1 to 6, and for bytes 10 behind 4.
 // Nothing is read before all lengths are known to be right.
+#![tactic(auto)]
+
 ghost use Rattle.std.specs.Prelude.{◌≡◌, ◌⊎◌, ◌++◌, ◌+◌, ◌*◌, ◌≤◌, length};
 ghost use Rattle.algebra.specs.Numbers.{Prime};
 ghost use Rattle.prime.specs.Test.{Decides};
@@ -205,7 +207,7 @@ fn cells_of(in_words: bool) -> usize
 }
 
 // What is left to check of a call: nothing, since it is refused; or so many words of its first three buffers.
-#[derive(Drop)]
+#[derive(Clone, Copy)]
 enum Left {
     Refused(Answer),
     Reads(usize, usize, usize),

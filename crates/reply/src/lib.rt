@@ -1,4 +1,6 @@
 // The solving program's work: a job sheet's text in, the result sheet or the line of the refusal out.
+#![tactic(auto)]
+
 ghost use Rattle.std.specs.Prelude.{[], ◌∷◌, ◌≤◌, length};
 ghost use Rattle.job.specs.Refusal.{verdict_of};
 ghost use Rattle.job.specs.Job.{buffers, words};

@@ -1,4 +1,6 @@
 // Result sheets: the reader.
+#![tactic(auto)]
+
 ghost use Rattle.std.specs.Prelude.{[], ◌∷◌, ◌≤◌, length};
 ghost use Rattle.job.specs.declared.Kind.TheVariants.{Basis};
 ghost use Rattle.lines.specs.Steps.{nth, form_of, Read};
@@ -16,7 +18,7 @@ use lines::{Numbers, Step};
 use sheet::{Body, Reading, Start};
 
 // The words of y, or of Y and of Z.
-#[derive(Drop)]
+#[derive(Clone, Copy)]
 pub struct Counts {
     pub one: usize,
     pub two: usize,

@@ -1,4 +1,6 @@
 // Result sheets: the writer. And the number and the places that an answer is told by.
+#![tactic(auto)]
+
 ghost use Rattle.std.specs.Prelude.{◌≡◌, [], ◌∷◌, ◌++◌, ◌+◌, ◌*◌, ◌≤◌, ◌<◌, length};
 ghost use Rattle.job.specs.Refusal.{verdict_of};
 ghost use Rattle.job.specs.declared.Kind.TheVariants.{System, Basis, Equation};
@@ -17,14 +19,14 @@ use job::{Answer, Kind};
 
 // What a writer of result sheets answers: done, with the text's length in bytes, or why not. `written_verdict` of specs/
 // gives document 01's number and places for each.
-#[derive(Drop)]
+#[derive(Clone, Copy)]
 pub enum Written {
     Done { length: usize },
     Refused(Answer),
 }
 
 // Number, first place and second place.
-#[derive(Drop)]
+#[derive(Clone, Copy)]
 pub struct Places(pub u8, pub u8, pub u32);
 
 // The number and the places of an answer: 0 where not named, and three zeros for done.

@@ -1,4 +1,6 @@
 // Job sheets: the reader. Its public parts serve every sort of sheets.
+#![tactic(auto)]
+
 ghost use Rattle.std.specs.Prelude.{[], ◌∷◌, ◌+◌, ◌≤◌, ◌<◌, length};
 ghost use Rattle.lines.specs.Steps.{nth};
 ghost use Rattle.header.specs.Header.{word_of};
@@ -27,7 +29,7 @@ use lines::{Numbers, Step};
 
 // What a reader of sheets answers: done, with what line 1 says; a refusal; or 9, at a line, from 1. `read_verdict` of
 // specs/ gives document 01's number and places for each.
-#[derive(Drop)]
+#[derive(Clone, Copy)]
 pub enum Reading {
     Done(Header),
     Refused(Answer),
@@ -35,14 +37,14 @@ pub enum Reading {
 }
 
 // Where the lines behind line 1 start, or why they are not read.
-#[derive(Drop)]
+#[derive(Clone, Copy)]
 pub enum Start {
     At(Header, Cursor),
     Stop(Reading),
 }
 
 // Whether the lines behind line 1 make a whole sheet, or which is the first that is broken.
-#[derive(Drop)]
+#[derive(Clone, Copy)]
 pub enum Body {
     Whole,
     Broken(usize),

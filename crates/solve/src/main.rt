@@ -1,4 +1,6 @@
 // The solving program: reads one job sheet on standard input and prints its result sheet, or the line of its refusal.
+#![tactic(auto)]
+
 ghost use Rattle.std.specs.Prelude.{◌≡◌, length};
 
 use libc::{STDIN_FILENO, STDOUT_FILENO};
