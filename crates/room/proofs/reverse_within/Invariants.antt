@@ -1,0 +1,14 @@
+-- The invariants and measures.
+use mathlib.Core.Path.{◌≡◌}
+use Prim.Native.Nat.{suc, ◌+◌, ◌-◌}
+use native.Mathlib.Omega.{arith}
+use borrow.Author.Rules.{rules}
+use Rattle.room.specs.Room.{words_back}
+use Rattle.room.proofs.Runs.{Turn, turn_start, turn_next, turn_read, turn_done}
+use Rattle.room.proofs.reverse_within.Given as goal
+
+abbrev pub invariant-loop-j : goal.invariant-loop-j
+invariant-loop-j l = Turn l.to l.n (words_back l.initial.w l.from l.n) l.initial.w l.w l.j
+
+abbrev pub decreases-loop-j : goal.decreases-loop-j
+decreases-loop-j l = l.n - l.j
