@@ -3,7 +3,6 @@
 -- Assumes nothing.
 use mathlib.Core.Path.{refl}
 use native.Mathlib.Omega.{arith}
-use borrow.Author.Rules.{rules}
 use Rattle.job.specs.Job.{Job, buffers, bytes}
 use Rattle.refusal.specs.Checked.{job_of, ReadsLeft}
 use Rattle.refusal.proofs.Call.{call_refused, call_reads, call-checked}

@@ -3,7 +3,6 @@
 use mathlib.Core.List.{List, [], ◌∷◌}
 use Prim.Native.Nat.{◌<◌}
 use native.Mathlib.Omega.{arith}
-use borrow.Author.Rules.{rules}
 use Rattle.job.specs.Refusal.{Verdict, Rule, rule, Says, verdict_of}
 use Rattle.job.specs.Rules.{Outside, limit_rules}
 use Rattle.job.proofs.Says.{says_none, says_here, says_past}

@@ -1,7 +1,6 @@
 -- `refusal::check_size` meets its contract: what 1 to 4 refuse, and then 10; the product fits by the limits.
 -- Assumes nothing.
 use native.Mathlib.Omega.{arith}
-use borrow.Author.Rules.{rules}
 use Rattle.job.specs.declared.Answer.{Answer}
 use Rattle.job.specs.Refusal.{verdict_of}
 use Rattle.job.specs.Rules.{size_rules}

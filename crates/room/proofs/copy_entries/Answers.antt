@@ -2,12 +2,10 @@
 -- left of the entries.
 -- Assumes nothing.
 use mathlib.Core.Path.{refl}
-use Prim.Native.Nat.{◌+◌, ◌-◌, ◌*◌, ◌≤◌}
+use Prim.Native.Nat.{◌+◌, ◌*◌, ◌≤◌}
 use native.Mathlib.Omega.{arith}
 use lib.ListN.{length}
-use borrow.Author.Rules.{rules}
-use Rattle.room.specs.Room.{entries_from}
-use Rattle.room.proofs.Entries.{EntryTurn, entries_start, entries_next, entries_done}
+use Rattle.room.proofs.Entries.{entries_start, entries_next, entries_done}
 use Rattle.room.proofs.copy_entries.Goals as goal
 use Rattle.room.proofs.copy_entries.Goals.{In-loop-e}
 
