@@ -1,0 +1,8 @@
+-- `text::put_byte` meets its contract.
+-- Assumes nothing.
+use borrow.Author.Rules.{rules}
+use Rattle.text.proofs.Puts.{put_one}
+use Rattle.text.proofs.put_byte.Goals as goal
+
+pub returns : goal.returns
+returns c = put_one c.args.at c.args.b c.args.d.now c.requires
