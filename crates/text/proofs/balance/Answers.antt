@@ -5,7 +5,6 @@ use Prim.Native.Nat.{◌-◌}
 use native.Mathlib.Omega.{arith}
 use mir.Syntax.{w64}
 use mir.Facts.{to_z_pos}
-use borrow.Author.Rules.{rules}
 use Rattle.text.proofs.Machine.{minus_fits, minus_back}
 use Rattle.text.proofs.Classes.{balanced_upto, balanced_above}
 use Rattle.text.proofs.balance.Goals as goal

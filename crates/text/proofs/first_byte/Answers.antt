@@ -3,7 +3,6 @@
 use mathlib.Core.Path.{sym}
 use native.Mathlib.Omega.{arith}
 use lib.ListN.{get_or-eq_default}
-use borrow.Author.Rules.{rules}
 use Rattle.text.proofs.first_byte.Goals as goal
 
 pub returns-else-f-gt0 : goal.returns-else-f-gt0

@@ -7,7 +7,6 @@ use native.Mathlib.Omega.{arith}
 use lib.IntN.{negsuc}
 use mir.Syntax.{w64}
 use mir.Facts.{to_z-of_z}
-use borrow.Author.Rules.{rules}
 use Rattle.text.proofs.Machine.{is_negative, is_natural, next_fits, turned_fits, turned-back}
 use Rattle.text.proofs.magnitude.Goals as goal
 use Rattle.text.proofs.magnitude.Goals.{Then-x-lt0}

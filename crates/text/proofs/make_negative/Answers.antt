@@ -1,6 +1,5 @@
 -- `text::make_negative` meets its contract.
 -- Assumes nothing.
-use borrow.Author.Rules.{rules}
 use Rattle.text.proofs.Machine.{minus_fits, less_fits, less-back}
 use Rattle.text.proofs.make_negative.Goals as goal
 

@@ -1,6 +1,5 @@
 -- `text::put_byte` meets its contract.
 -- Assumes nothing.
-use borrow.Author.Rules.{rules}
 use Rattle.text.proofs.Puts.{put_one}
 use Rattle.text.proofs.put_byte.Goals as goal
 

@@ -3,7 +3,6 @@
 use mathlib.Core.Path.{ap, ◌∙◌}
 use lib.IntN.{nat_abs}
 use mir.Facts.{to_z-of_z}
-use borrow.Author.Rules.{rules}
 use Rattle.text.proofs.Machine.{is_negative, is_natural}
 use Rattle.text.proofs.Spelling.{spell_negative, spell_natural}
 use Rattle.text.proofs.Puts.{put-more, put_as}

@@ -2,17 +2,15 @@
 -- number the whole field writes, the rest of the field takes n there. The measure is what is left of the field.
 -- Assumes nothing.
 use mathlib.Core.Path.{◌≡◌, refl, subst, ◌∙◌}
-use mathlib.Core.List.{List, [], ◌++◌, append-nil}
-use mathlib.Core.Logic.{⊎_elim}
-use Prim.Native.Nat.{ℕ, suc, ◌≤◌, ◌<◌, ◌-◌, ◌+◌}
+use mathlib.Core.List.{List, [], append-nil}
+use Prim.Native.Nat.{ℕ, suc, ◌<◌, ◌+◌}
 use native.Mathlib.Omega.{arith}
 use native.Mathlib.Numerals.{add-one}
 use lib.ListN.{length, drop, drop_of_length-le}
-use borrow.Author.Rules.{rules}
 use Rattle.text.specs.Decimal.{digits}
 use Rattle.text.proofs.Digits.{Goes, spelled, Ahead, ahead, Goes-step, take-digit}
 use Rattle.text.proofs.read_natural.Goals as goal
-use Rattle.text.proofs.read_natural.Goals.{After-wide-b}
+use Rattle.text.proofs.read_natural.Goals.{After-wide-b, then-n-eq0+else-i-gt0, else-n-eq0}
 
 -- what a number's digits would have at this byte
 next : (d : After-wide-b) (x : ℕ) → d.args.f.now ≡ digits x
@@ -50,7 +48,7 @@ loop-i-preserved c =
     let f = c.args.f.now in
     let h : l.i < length f = c.loop-i-test.true in
     let lead : 0 < l.i → 0 < l.n =
-    ⊎_elim (λ w p. omega (arith, w)) (λ w p. omega (arith, w)) c.if-n-eq0.branch in
+    elim c.if-n-eq0.branch [ then-n-eq0+else-i-gt0 w ↦ λ p. omega (arith, w) | else-n-eq0 w ↦ λ p. omega (arith, w) ] in
     let b = c.wide-b.ensures in
     let e : l.i + 1 ≡ suc l.i = add-one l.i in (
       omega arith,

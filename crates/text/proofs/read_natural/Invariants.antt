@@ -1,14 +1,10 @@
 -- The invariants and measures.
-use mathlib.Core.Path.{◌≡◌, refl, subst, ◌∙◌}
-use mathlib.Core.List.{List, [], ◌++◌, append-nil}
-use mathlib.Core.Logic.{⊎_elim}
-use Prim.Native.Nat.{ℕ, suc, ◌≤◌, ◌<◌, ◌-◌, ◌+◌}
-use native.Mathlib.Omega.{arith}
-use native.Mathlib.Numerals.{add-one}
-use lib.ListN.{length, drop, drop_of_length-le}
-use borrow.Author.Rules.{rules}
+use mathlib.Core.Path.{◌≡◌}
+use mathlib.Core.List.{◌++◌}
+use Prim.Native.Nat.{ℕ, ◌≤◌, ◌<◌, ◌-◌}
+use lib.ListN.{length, drop}
 use Rattle.text.specs.Decimal.{digits}
-use Rattle.text.proofs.Digits.{Goes, spelled, Ahead, ahead, Goes-step, take-digit}
+use Rattle.text.proofs.Digits.{Goes}
 use Rattle.text.proofs.read_natural.Given as goal
 
 abbrev pub invariant-loop-i : goal.invariant-loop-i

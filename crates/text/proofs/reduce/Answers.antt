@@ -2,7 +2,6 @@
 -- Assumes nothing.
 use mathlib.Core.Path.{ap}
 use lib.IntN.{nat_abs}
-use borrow.Author.Rules.{rules}
 use Rattle.text.proofs.Machine.{quot_fits}
 use Rattle.text.proofs.Classes.{sum_fits, sum_back, sum-cast, rem_is, rem_cast}
 use Rattle.text.proofs.reduce.Goals as goal
