@@ -11,7 +11,7 @@ use Rattle.lines.specs.Forms.{matrix_forms}
 use Rattle.lines.specs.Steps.{form_of, Passed, Read}
 use Rattle.lines.specs.declared.Step.{Step}
 use Rattle.lines.proofs.Forms.{word_digit}
-use Rattle.lines.proofs.Passes.{passed_none}
+use Rattle.lines.proofs.Passes.{Passed-none}
 use Rattle.lines.proofs.Blocks.{block_within, matrix-next, matrix-broken}
 use Rattle.lines.proofs.read_matrix.Statement.{statement}
 use Rattle.lines.proofs.read_matrix.Tie as tie
@@ -34,7 +34,7 @@ unfolding matrix_forms
 loop-holds c =
     let s = c.before.before in
     let a = s.args in
-    (omega arith, passed_none a.s.now a.c a.from a.w.now s.requires.0.placed s.requires.1)
+    (omega arith, Passed-none a.s.now a.c a.from a.w.now s.requires.0.placed s.requires.1)
 
 cast-t16 : tie.Need-overflow-cast-t16 invariant-loop decreases-loop
 cast-t16 c = omega arith

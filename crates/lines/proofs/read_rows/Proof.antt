@@ -9,7 +9,7 @@ use borrow.Author.Rules.{rules}
 use Rattle.lines.specs.Forms.{row_forms}
 use Rattle.lines.specs.Steps.{form_of, Passed, Read}
 use Rattle.lines.specs.declared.Step.{Step}
-use Rattle.lines.proofs.Passes.{passed_none}
+use Rattle.lines.proofs.Passes.{Passed-none}
 use Rattle.lines.proofs.Blocks.{block_within, rows_next, rows-broken}
 use Rattle.lines.proofs.read_rows.Statement.{statement}
 use Rattle.lines.proofs.read_rows.Tie as tie
@@ -26,7 +26,7 @@ unfolding row_forms
 loop-holds c =
     let s = c.before.before in
     let a = s.args in
-    (omega arith, passed_none a.s.now a.c a.from a.w.now s.requires.0.placed s.requires.1)
+    (omega arith, Passed-none a.s.now a.c a.from a.w.now s.requires.0.placed s.requires.1)
 
 add-read-row : tie.Need-overflow-add-read-row invariant-loop decreases-loop
 add-read-row c = omega arith

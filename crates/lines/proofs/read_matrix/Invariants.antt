@@ -1,0 +1,21 @@
+-- The invariants and measures.
+use mathlib.Core.Path.{◌≡◌, ◌∙◌}
+use mathlib.Core.List.{[], ◌∷◌}
+use Prim.Native.Nat.{◌+◌, ◌-◌, ◌*◌, ◌≤◌}
+use native.Mathlib.Omega.{arith}
+use lib.ListN.{length}
+use borrow.Author.Rules.{rules}
+use Rattle.lines.specs.Forms.{matrix_forms}
+use Rattle.lines.specs.Steps.{form_of, Passed, Read}
+use Rattle.lines.specs.declared.Step.{Step}
+use Rattle.lines.proofs.Forms.{word_digit}
+use Rattle.lines.proofs.Passes.{passed_none}
+use Rattle.lines.proofs.Blocks.{block_within, matrix-next, matrix-broken}
+use Rattle.lines.proofs.read_matrix.Given as goal
+
+abbrev pub invariant-loop-k : goal.invariant-loop-k
+invariant-loop-k l =
+    (l.k ≤ l.rows) × Passed l.s l.initial.d (matrix_forms (form_of l.n) (l.word ∷ []) l.columns 1 l.k) l.from l.initial.w l.w l.d
+
+abbrev pub decreases-loop-k : goal.decreases-loop-k
+decreases-loop-k l = l.rows - l.k
