@@ -1,10 +1,7 @@
 -- `lines::end_field` meets its contract. The loop's invariant: no byte passed is up to 10. The measure is what is left.
 -- Assumes nothing.
-use Prim.Native.Nat.{ℕ, ◌≤◌, ◌<◌, ◌-◌}
 use native.Mathlib.Decide.{ℕ_discrete}
 use native.Mathlib.Omega.{arith}
-use lib.ListN.{length, get_or}
-use borrow.Author.Rules.{rules}
 use Rattle.lines.proofs.end_field.Goals as goal
 
 pub loop-i-init : goal.loop-i-init

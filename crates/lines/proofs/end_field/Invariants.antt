@@ -1,9 +1,6 @@
 -- The invariants and measures.
 use Prim.Native.Nat.{ℕ, ◌≤◌, ◌<◌, ◌-◌}
-use native.Mathlib.Decide.{ℕ_discrete}
-use native.Mathlib.Omega.{arith}
 use lib.ListN.{length, get_or}
-use borrow.Author.Rules.{rules}
 use Rattle.lines.proofs.end_field.Given as goal
 
 abbrev pub invariant-loop-i : goal.invariant-loop-i

@@ -1,20 +1,9 @@
 -- `lines::pass_head` meets its contract. The loop's invariant is `Heading`; the measure is what is left of h.
 -- Assumes nothing.
-use mathlib.Core.Logic.{⊎_elim}
-use Prim.Native.Nat.{◌-◌}
 use native.Mathlib.Omega.{arith}
-use lib.ListN.{length}
-use borrow.Author.Rules.{rules}
-use Rattle.lines.proofs.Heads.{
-  Heading,
-  heading_start,
-  heading-done,
-  heading_none,
-  heading-other,
-  heading_tab,
-  heading-plain,
-}
+use Rattle.lines.proofs.Heads.{heading_start, heading-done, heading_none, heading-other, heading_tab, heading-plain}
 use Rattle.lines.proofs.pass_head.Goals as goal
+use Rattle.lines.proofs.pass_head.Goals.{then-h-i-eq9, else-h-i-eq9}
 
 pub loop-i-init : goal.loop-i-init
 loop-i-init c = heading_start c.args.s.now c.args.c c.args.h.now c.requires
@@ -38,8 +27,10 @@ loop-i-preserved c =
     let b = c.if-s-k.false in
     let l = c.loop-i in
     let h = c.loop-i-test.true in
-    ⊎_elim (λ w. rw w.1 (heading_tab l.invariant h c.if-k-s.false b w.0.taken))
-    (λ w. rw w.1 (heading-plain l.invariant h c.if-k-s.false b w.0.left)) c.if-h-i-eq9.branch
+    elim c.if-h-i-eq9.branch [
+      | then-h-i-eq9 w ↦ rw w.field-is (heading_tab l.invariant h c.if-k-s.false b w.if-h-i-eq9.true)
+      | else-h-i-eq9 w ↦ rw w.field-is (heading-plain l.invariant h c.if-k-s.false b w.if-h-i-eq9.false)
+    ]
 
 pub overflow_add-result : goal.overflow_add-result
 overflow_add-result c = omega (arith, c.loop-i.invariant.inside)

@@ -4,7 +4,6 @@ use mathlib.Core.Path.{◌≡◌, subst}
 use Prim.Native.Nat.{◌+◌, ◌<◌}
 use native.Mathlib.Omega.{arith}
 use lib.ListN.{length}
-use borrow.Author.Rules.{rules}
 use Rattle.text.specs.Field.{Numbered}
 use Rattle.text.specs.declared.Signed.{Signed}
 use Rattle.text.proofs.Machine.{passes}
@@ -53,8 +52,8 @@ ended c = omega (arith, c.if-e-s.false, c.end_field-e.ensures.within)
 pub returns-in-Of : goal.returns-in-Of
 returns-in-Of c =
     let a = c.args in
-    let x = c.x-1.given.0.0 in
-    let z = said (goal.at.returns-in-Of c).After-read_number _ c.x-1.given.1 in
+    let x = c.in-Of.x in
+    let z = said (goal.at.returns-in-Of c).After-read_number _ c.in-Of.is in
     rw (passes a.low a.high x c.requires.1 c.requires.2 z.1, c.behind_field.ensures)
     (item-is a.s.now a.c c.end_field-e.result c.if-at-s.false c.if-s-at-ne9.false
     c.end_field-e.ensures (ended (goal.at.returns-in-Of c).After-read_number) a.low a.high c.requires.0 x z)
@@ -63,4 +62,4 @@ pub returns-in-Not : goal.returns-in-Not
 returns-in-Not c =
     let a = c.args in
     item_not a.s.now a.c c.end_field-e.result c.if-at-s.false c.if-s-at-ne9.false
-    c.end_field-e.ensures (ended (goal.at.returns-in-Not c).After-read_number) a.low a.high (said (goal.at.returns-in-Not c).After-read_number _ c.enum_told-1.given.1)
+    c.end_field-e.ensures (ended (goal.at.returns-in-Not c).After-read_number) a.low a.high (said (goal.at.returns-in-Not c).After-read_number _ c.in-Not.is)

@@ -1,20 +1,19 @@
 -- `lines::read_matrix` meets its contract. The loop's invariant: the lines of the rows before k are passed. The measure
 -- is how many rows are left.
 -- Assumes nothing.
-use mathlib.Core.Path.{◌≡◌, ◌∙◌}
+use mathlib.Core.Path.{◌≡◌}
 use mathlib.Core.List.{[], ◌∷◌}
-use Prim.Native.Nat.{◌+◌, ◌-◌, ◌*◌, ◌≤◌}
+use Prim.Native.Nat.{◌+◌, ◌*◌, ◌≤◌}
 use native.Mathlib.Omega.{arith}
 use lib.ListN.{length}
-use borrow.Author.Rules.{rules}
 use Rattle.lines.specs.Forms.{matrix_forms}
-use Rattle.lines.specs.Steps.{form_of, Passed, Read}
+use Rattle.lines.specs.Steps.{form_of, Read}
 use Rattle.lines.specs.declared.Step.{Step}
 use Rattle.lines.proofs.Forms.{word_digit}
-use Rattle.lines.proofs.Passes.{passed_none}
+use Rattle.lines.proofs.Passes.{Passed-none}
 use Rattle.lines.proofs.Blocks.{block_within, matrix-next, matrix-broken}
 use Rattle.lines.proofs.read_matrix.Goals as goal
-use Rattle.lines.proofs.read_matrix.Goals.{After-h-1, After-read_rows}
+use Rattle.lines.proofs.read_matrix.Goals.{After-read_rows, In-loop-k}
 
 pub overflow_mul-step : goal.overflow_mul-step
 overflow_mul-step c =
@@ -25,7 +24,7 @@ pub loop-k-init : goal.loop-k-init
 unfolding matrix_forms
 loop-k-init c =
     let a = c.args in
-    (omega arith, passed_none a.s.now a.c a.from a.w.now c.requires.0.placed c.requires.1)
+    (omega arith, Passed-none a.s.now a.c a.from a.w.now c.requires.0.placed c.requires.1)
 
 pub overflow_cast-h : goal.overflow_cast-h
 overflow_cast-h c = omega arith
@@ -35,7 +34,7 @@ overflow_add-h c = omega arith
 
 -- the places of row k are within the buffer
 places
-    : (c : After-h-1) →
+    : (c : In-loop-k) →
     let a = c.args in
     let l = c.loop-k in
     a.from + l.k * (a.columns * a.n.count) + a.columns * a.n.count ≤ length l.w
@@ -46,16 +45,16 @@ places c =
     omega (arith, within, c.requires.0.room, l.invariant.1.long)
 
 pub overflow_mul-k : goal.overflow_mul-k
-overflow_mul-k c = omega (arith, places (goal.at.overflow_mul-k c).After-h-1)
+overflow_mul-k c = omega (arith, places (goal.at.overflow_mul-k c).In-loop-k)
 
 pub overflow_add-from : goal.overflow_add-from
-overflow_add-from c = omega (arith, places (goal.at.overflow_add-from c).After-h-1)
+overflow_add-from c = omega (arith, places (goal.at.overflow_add-from c).In-loop-k)
 
 pub read_rows-requires : goal.read_rows-requires
 read_rows-requires c =
     let pre = c.requires in
     let p = c.loop-k.invariant.1 in (
-      record { placed = p.placed; low = pre.0.low; high = pre.0.high; room = places (goal.at.read_rows-requires c).After-h-1 },
+      record { placed = p.placed; low = pre.0.low; high = pre.0.high; room = places (goal.at.read_rows-requires c).In-loop-k },
       p.field,
       omega (arith, pre.4),
     )
@@ -79,10 +78,10 @@ returns-in-Broken c =
     let a = c.args in
     let l = c.loop-k in
     matrix-broken a.n (a.word ∷ []) a.columns l.k a.rows c.loop-k-test.true
-    (found (goal.at.returns-in-Broken c).After-read_rows _ c.line-1.given.1)
+    (found (goal.at.returns-in-Broken c).After-read_rows _ c.in-Broken.is)
 
 pub loop-k-preserved : goal.loop-k-preserved
-loop-k-preserved c = (omega arith, found (goal.at.loop-k-preserved c).After-read_rows _ c.e-1.given.1)
+loop-k-preserved c = (omega arith, found (goal.at.loop-k-preserved c).After-read_rows _ c.in-Next.is)
 
 pub returns : goal.returns
 returns c =

@@ -1,16 +1,8 @@
 -- The invariants and measures.
-use mathlib.Core.Path.{◌≡◌, ◌∙◌}
 use mathlib.Core.List.{[], ◌∷◌}
-use Prim.Native.Nat.{◌+◌, ◌-◌, ◌*◌, ◌≤◌}
-use native.Mathlib.Omega.{arith}
-use lib.ListN.{length}
-use borrow.Author.Rules.{rules}
+use Prim.Native.Nat.{◌-◌, ◌≤◌}
 use Rattle.lines.specs.Forms.{matrix_forms}
-use Rattle.lines.specs.Steps.{form_of, Passed, Read}
-use Rattle.lines.specs.declared.Step.{Step}
-use Rattle.lines.proofs.Forms.{word_digit}
-use Rattle.lines.proofs.Passes.{passed_none}
-use Rattle.lines.proofs.Blocks.{block_within, matrix-next, matrix-broken}
+use Rattle.lines.specs.Steps.{form_of, Passed}
 use Rattle.lines.proofs.read_matrix.Given as goal
 
 abbrev pub invariant-loop-k : goal.invariant-loop-k

@@ -1,15 +1,11 @@
 -- `lines::read_numbers` meets its contract. The loop's invariant is `Going`; the measure is how many numbers are left.
 -- Assumes nothing.
 use mathlib.Core.Path.{◌≡◌, subst}
-use mathlib.Core.List.{[]}
-use Prim.Native.Nat.{◌-◌}
 use native.Mathlib.Omega.{arith}
-use borrow.Author.Rules.{rules}
 use Rattle.text.proofs.Machine.{passes}
-use Rattle.lines.specs.Forms.{shaped}
 use Rattle.lines.specs.Steps.{Itemed}
 use Rattle.lines.specs.declared.Item.{Item}
-use Rattle.lines.proofs.Going.{Going, Going-start, Going-more, going_not, going_end, going_other, Going-done}
+use Rattle.lines.proofs.Going.{Going-start, Going-more, going_not, going_end, going_other, Going-done}
 use Rattle.lines.proofs.read_numbers.Goals as goal
 use Rattle.lines.proofs.read_numbers.Goals.{After-read_item}
 
@@ -51,15 +47,15 @@ found c r e =
 
 pub returns-in-Not : goal.returns-in-Not
 returns-in-Not c =
-    going_not c.loop-j.invariant c.loop-j-test.true (found (goal.at.returns-in-Not c).After-read_item _ c.enum_told-1.given.1)
+    going_not c.loop-j.invariant c.loop-j-test.true (found (goal.at.returns-in-Not c).After-read_item _ c.in-Not.is)
 
 pub loop-j-preserved : goal.loop-j-preserved
 loop-j-preserved c =
     let n = c.args.n in
-    let x = c.x-1.given.0.0 in
-    let w = found (goal.at.loop-j-preserved c).After-read_item _ c.x-1.given.1 in
+    let x = c.in-Is.x in
+    let w = found (goal.at.loop-j-preserved c).After-read_item _ c.in-Is.is in
     rw (passes n.low n.high x c.requires.low c.requires.high w.0)
-    (Going-more c.loop-j.invariant c.loop-j-test.true x c.x-1.given.0.1.0
+    (Going-more c.loop-j.invariant c.loop-j-test.true x c.in-Is.e
     c.requires.room w)
 
 pub returns-then-at-s : goal.returns-then-at-s

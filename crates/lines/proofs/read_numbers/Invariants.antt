@@ -1,14 +1,8 @@
 -- The invariants and measures.
-use mathlib.Core.Path.{◌≡◌, subst}
 use mathlib.Core.List.{[]}
 use Prim.Native.Nat.{◌-◌}
-use native.Mathlib.Omega.{arith}
-use borrow.Author.Rules.{rules}
-use Rattle.text.proofs.Machine.{passes}
 use Rattle.lines.specs.Forms.{shaped}
-use Rattle.lines.specs.Steps.{Itemed}
-use Rattle.lines.specs.declared.Item.{Item}
-use Rattle.lines.proofs.Going.{Going, Going-start, Going-more, going_not, going_end, going_other, Going-done}
+use Rattle.lines.proofs.Going.{Going}
 use Rattle.lines.proofs.read_numbers.Given as goal
 
 abbrev pub invariant-loop-j : goal.invariant-loop-j

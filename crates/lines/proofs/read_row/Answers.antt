@@ -3,7 +3,6 @@
 use mathlib.Core.Path.{refl, ap}
 use mathlib.Core.List.{List, [], ◌∷◌, ◌++◌}
 use Prim.Native.Nat.{ℕ, ◌+◌}
-use borrow.Author.Rules.{rules}
 use Rattle.text.specs.Decimal.{digits}
 use Rattle.text.proofs.Digits.{digits-small}
 use Rattle.lines.specs.Forms.{numbered}
@@ -13,12 +12,12 @@ use Rattle.lines.proofs.read_row.Goals as goal
 pub read_line-requires : goal.read_line-requires
 read_line-requires c =
     let pre = c.requires.0 in
-    let past = rw c.d-1.given.1 at c.pass_head.ensures in
+    let past = rw c.in-Is.is at c.pass_head.ensures in
     record { placed = past.placed; low = pre.low; high = pre.high; room = pre.room }
 
 pub returns-in-Is : goal.returns-in-Is
 returns-in-Is c =
-    let past = rw c.d-1.given.1 at c.pass_head.ensures in
+    let past = rw c.in-Is.is at c.pass_head.ensures in
     let a = c.args in
     let head = ap (λ (t : List ℕ). a.h.now ++ (9 ∷ t)) (digits-small a.i c.requires.1) in
     headed_read past a.n (9 ∷ (48 + a.i) ∷ []) (numbered a.h.now a.i) head a.from a.w.now _
@@ -29,4 +28,4 @@ returns-in-Not c =
     let a = c.args in
     let h = a.h.now in
     headless-broken a.s.now a.c a.n h (9 ∷ digits a.i) (numbered h a.i) refl a.from a.w.now
-    (rw c.enum_told-1.given.1 at c.pass_head.ensures)
+    (rw c.in-Not.is at c.pass_head.ensures)

@@ -1,15 +1,14 @@
 -- `lines::read_rows` meets its contract. The loop's invariant: the lines of the rows before k are passed. The measure
 -- is how many rows are left.
 -- Assumes nothing.
-use mathlib.Core.Path.{◌≡◌, ◌∙◌}
-use Prim.Native.Nat.{◌+◌, ◌-◌, ◌*◌, ◌≤◌}
+use mathlib.Core.Path.{◌≡◌}
+use Prim.Native.Nat.{◌+◌, ◌*◌, ◌≤◌}
 use native.Mathlib.Omega.{arith}
 use lib.ListN.{length}
-use borrow.Author.Rules.{rules}
 use Rattle.lines.specs.Forms.{row_forms}
-use Rattle.lines.specs.Steps.{form_of, Passed, Read}
+use Rattle.lines.specs.Steps.{form_of, Read}
 use Rattle.lines.specs.declared.Step.{Step}
-use Rattle.lines.proofs.Passes.{passed_none}
+use Rattle.lines.proofs.Passes.{Passed-none}
 use Rattle.lines.proofs.Blocks.{block_within, rows_next, rows-broken}
 use Rattle.lines.proofs.read_rows.Goals as goal
 use Rattle.lines.proofs.read_rows.Goals.{After-read_row, In-loop-k}
@@ -18,7 +17,7 @@ pub loop-k-init : goal.loop-k-init
 unfolding row_forms
 loop-k-init c =
     let a = c.args in
-    (omega arith, passed_none a.s.now a.c a.from a.w.now c.requires.0.placed c.requires.1)
+    (omega arith, Passed-none a.s.now a.c a.from a.w.now c.requires.0.placed c.requires.1)
 
 pub overflow_add-first : goal.overflow_add-first
 overflow_add-first c = omega arith
@@ -63,10 +62,10 @@ returns-in-Broken c =
     let a = c.args in
     let l = c.loop-k in
     rows-broken a.n a.h.now a.first l.k a.rows c.loop-k-test.true
-    (found (goal.at.returns-in-Broken c).After-read_row _ c.line-1.given.1)
+    (found (goal.at.returns-in-Broken c).After-read_row _ c.in-Broken.is)
 
 pub loop-k-preserved : goal.loop-k-preserved
-loop-k-preserved c = (omega arith, found (goal.at.loop-k-preserved c).After-read_row _ c.e-1.given.1)
+loop-k-preserved c = (omega arith, found (goal.at.loop-k-preserved c).After-read_row _ c.in-Next.is)
 
 pub returns : goal.returns
 returns c =
