@@ -34,7 +34,7 @@ module _ {y z : ℕ → ℤ} where
       let p : a + 1 ≡ suc a = omega arith in
       let q : b + 1 ≡ suc b = omega arith in
       let m : 1 + n ≡ suc n = omega arith in
-      let rest = items-shift n (same_behind 1 n (rw (sym m) at e)) in
+      let rest = items-shift {a = a + 1} {b = b + 1} n (same_behind 1 n (rw (sym m) at e)) in
       rw (same_first e, rw (p, q) at rest)
 
   pub lines-shift : {a b : ℕ} (fs : List Form) → Same y a z b (total fs) → lines fs y a ≡ lines fs z b
