@@ -40,6 +40,6 @@ module _ {y z : ℕ → ℤ} where
   pub lines-shift : {a b : ℕ} (fs : List Form) → Same y a z b (total fs) → lines fs y a ≡ lines fs z b
   unfolding lines total
   lines-shift [] e = refl
-  lines-shift (f ∷ fs) e =
+  lines-shift {a} {b} (f ∷ fs) e =
       let here = items-shift f.count (record { at = λ j h. e.at j (omega arith) }) in
-      rw (here, lines-shift fs (same_behind f.count (total fs) e))
+      rw (here, lines-shift {a = a + f.count} {b = b + f.count} fs (same_behind f.count (total fs) e))
