@@ -34,12 +34,12 @@ module _ {y z : ℕ → ℤ} where
       let p : a + 1 ≡ suc a = omega arith in
       let q : b + 1 ≡ suc b = omega arith in
       let m : 1 + n ≡ suc n = omega arith in
-      let rest = items-shift n (same_behind 1 n (rw (sym m) at e)) in
+      let rest = items-shift {a = a + 1} {b = b + 1} n (same_behind 1 n (rw (sym m) at e)) in
       rw (same_first e, rw (p, q) at rest)
 
   pub lines-shift : {a b : ℕ} (fs : List Form) → Same y a z b (total fs) → lines fs y a ≡ lines fs z b
   unfolding lines total
   lines-shift [] e = refl
-  lines-shift (f ∷ fs) e =
+  lines-shift {a} {b} (f ∷ fs) e =
       let here = items-shift f.count (record { at = λ j h. e.at j (omega arith) }) in
-      rw (here, lines-shift fs (same_behind f.count (total fs) e))
+      rw (here, lines-shift {a = a + f.count} {b = b + f.count} fs (same_behind f.count (total fs) e))

@@ -1,0 +1,11 @@
+-- The invariants and measures.
+use Prim.Native.Nat.{◌-◌}
+use lib.ListN.{length}
+use Rattle.result.proofs.Turns.{BytesPut}
+use Rattle.result.proofs.put_bytes.Given as goal
+
+abbrev pub invariant-loop-i : goal.invariant-loop-i
+invariant-loop-i l = BytesPut l.h l.at l.initial.d l.d l.i
+
+abbrev pub decreases-loop-i : goal.decreases-loop-i
+decreases-loop-i l = length l.h - l.i

@@ -1,0 +1,43 @@
+-- `result::put_numbers` meets its contract. The loop's invariant is `NumbersPut`.
+-- The measure is what is left of the words.
+-- Assumes nothing.
+use Prim.Native.Nat.{◌+◌}
+use native.Mathlib.Omega.{arith}
+use Rattle.result.proofs.Turns.{numbers-none, numbers_room, numbers-next, numbers-all}
+use Rattle.result.proofs.put_numbers.Goals as goal
+
+pub loop-k-init : goal.loop-k-init
+loop-k-init c = numbers-none c.requires
+
+pub overflow_add-from : goal.overflow_add-from
+overflow_add-from c = omega arith
+
+pub offset_bounds-s-from : goal.offset_bounds-s-from
+offset_bounds-s-from c = omega arith
+
+pub bounds-s-from : goal.bounds-s-from
+bounds-s-from c = omega arith
+
+pub put_class-e-requires : goal.put_class-e-requires
+put_class-e-requires c =
+    let room = numbers_room c.requires c.loop-k.invariant (omega arith) in
+    (omega arith, c.requires.below (c.args.from + c.loop-k.k))
+
+pub overflow_add-k : goal.overflow_add-k
+overflow_add-k c = omega arith
+
+pub loop-k-smaller : goal.loop-k-smaller
+loop-k-smaller c = omega arith
+
+pub loop-k-preserved : goal.loop-k-preserved
+loop-k-preserved c =
+    numbers-next c.requires c.loop-k.invariant (omega arith) c.put_class-e.ensures
+
+pub put_byte-requires : goal.put_byte-requires
+put_byte-requires c =
+    let room = numbers_room c.requires c.loop-k.invariant (omega arith) in
+    omega arith
+
+pub returns : goal.returns
+returns c =
+    numbers-all c.requires c.loop-k.invariant (omega arith) c.put_byte.ensures
