@@ -1,6 +1,6 @@
 -- A written equation has one solution: two series that satisfy it modulo a prime p agree modulo p below n, if n is at
--- most p and the first coefficient of its highest term is not 0. Term after term, from the start values and then from the
--- highest term.
+-- most p and the first coefficient of its highest term is not 0. Term after term, from the start values and then from
+-- the highest term.
 -- Assumes nothing.
 use mathlib.Core.Path.{◌≡◌, sym, ◌∙◌, ap}
 use mathlib.Core.Logic.{◌≢◌}

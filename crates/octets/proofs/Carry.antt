@@ -13,7 +13,8 @@ use Rattle.job.specs.declared.Answer.{Answer}
 use Rattle.job.specs.declared.Answer.TheVariants.{Done}
 use Rattle.job.specs.Refusal.{Verdict, done, Rule, Says, verdict_of}
 use Rattle.job.specs.Job.{Buffers, listed, Handed, words, bytes, word_at, series_at, matrix_at, lengths_of, read_count}
-use Rattle.job.specs.Rules.{limit_rules, size_rules, length_rules, word_rules, read_rules, check_rules, kind_rules, call_rules}
+use Rattle.job.specs.Rules.{limit_rules, size_rules, length_rules, word_rules, read_rules}
+use Rattle.job.specs.Rules.{check_rules, kind_rules, call_rules}
 use Rattle.job.specs.Outcome.{Filled, Solved, Cleared, Outcome}
 use Rattle.job.proofs.Says.{refused_not_done, says-append_done, says-append_other, OtherThanDone, answer_other}
 use Rattle.job.proofs.Accepted.{Sized, Accepted, accepted}

@@ -54,7 +54,8 @@ module _ {cells : ℕ} {should are : List ℕ} {i : ℕ} (passed : LengthsPassed
   unfolding length_rules verdict_of
   lengths-wrong more there wrong = record {
     says = λ h lent e f.
-        let holds : length (get_or lent i []) ≢ cells_of h * get_or should i 0 = λ same. wrong (cc (lent_at lent f i)) in
+        let holds : length (get_or lent i []) ≢ cells_of h * get_or should i 0 =
+        λ same. wrong (cc (lent_at lent f i)) in
         let long = lent_long lent f i there in
         passed.rest h lent e f _
         (rw (add-one, drop-cons should i 0 more, drop-cons lent i [] long) (says_here _ _ holds));
