@@ -26,14 +26,17 @@ pub slice_bounds-c-end : goal.slice_bounds-c-end
 slice_bounds-c-end c = three_within (fitting (goal.at.slice_bounds-c-end c).Else-not-fits)
 
 pub slice_bounds-run_basis-end : goal.slice_bounds-run_basis-end
-slice_bounds-run_basis-end c = sym (front_length 1024 _ (three_within (fitting (goal.at.slice_bounds-run_basis-end c).Else-not-fits)))
+slice_bounds-run_basis-end c =
+    let fit = fitting (goal.at.slice_bounds-run_basis-end c).Else-not-fits in
+    sym (front_length 1024 _ (three_within fit))
 
 pub slice_bounds-d-end : goal.slice_bounds-d-end
 slice_bounds-d-end c = four_within (fitting (goal.at.slice_bounds-d-end c).Else-not-fits)
 
 pub slice_bounds-run_basis-end-2 : goal.slice_bounds-run_basis-end-2
 slice_bounds-run_basis-end-2 c =
-    sym (front_length 1024 _ (four_within (fitting (goal.at.slice_bounds-run_basis-end-2 c).Else-not-fits)))
+    let fit = fitting (goal.at.slice_bounds-run_basis-end-2 c).Else-not-fits in
+    sym (front_length 1024 _ (four_within fit))
 
 pub run_basis-requires : goal.run_basis-requires
 run_basis-requires c =

@@ -35,13 +35,16 @@ pub slice_bounds-c-end : goal.slice_bounds-c-end
 slice_bounds-c-end c = rows-within (goal.at.slice_bounds-c-end c).Else-not-fits
 
 pub slice_bounds-run_vector-end : goal.slice_bounds-run_vector-end
-slice_bounds-run_vector-end c = sym (front_length 8 _ (rows-within (goal.at.slice_bounds-run_vector-end c).Else-not-fits))
+slice_bounds-run_vector-end c =
+    sym (front_length 8 _ (rows-within (goal.at.slice_bounds-run_vector-end c).Else-not-fits))
 
 pub slice_bounds-d-end : goal.slice_bounds-d-end
 slice_bounds-d-end c = four_within (fitting (goal.at.slice_bounds-d-end c).Else-not-fits)
 
 pub slice_bounds-run_vector-end-2 : goal.slice_bounds-run_vector-end-2
-slice_bounds-run_vector-end-2 c = sym (front_length 1024 _ (four_within (fitting (goal.at.slice_bounds-run_vector-end-2 c).Else-not-fits)))
+slice_bounds-run_vector-end-2 c =
+    let fit = fitting (goal.at.slice_bounds-run_vector-end-2 c).Else-not-fits in
+    sym (front_length 1024 _ (four_within fit))
 
 pub run_vector-requires : goal.run_vector-requires
 run_vector-requires c =

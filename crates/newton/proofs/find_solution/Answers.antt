@@ -3,7 +3,6 @@
 use Rattle.newton.proofs.Solutions.{thin, sides_inside, starts_spread, system_started, system_placed}
 use native.Mathlib.Omega.{arith}
 use Rattle.newton.proofs.find_solution.Goals as goal
-use Rattle.newton.proofs.find_solution.Goals.{Start}
 
 pub place_matrix-requires : goal.place_matrix-requires
 place_matrix-requires c = c.requires.placeable
@@ -11,12 +10,12 @@ place_matrix-requires c = c.requires.placeable
 pub overflow_mul-m : goal.overflow_mul-m
 overflow_mul-m c =
     let given = c.requires in
-    omega (arith, (goal.at.overflow_mul-m c).Start, given.placeable.matrix, given.placeable.room, thin given given.placeable.matrix)
+    omega (arith, given.placeable.matrix, given.placeable.room, thin given given.placeable.matrix)
 
 pub overflow_mul-r : goal.overflow_mul-r
 overflow_mul-r c =
     let given = c.requires in
-    omega (arith, (goal.at.overflow_mul-r c).Start, given.placeable.matrix, given.placeable.room, thin given given.placeable.matrix)
+    omega (arith, given.placeable.matrix, given.placeable.room, thin given given.placeable.matrix)
 
 pub copy-requires : goal.copy-requires
 copy-requires c =
@@ -27,7 +26,7 @@ copy-requires c =
 pub overflow_mul-m-2 : goal.overflow_mul-m-2
 overflow_mul-m-2 c =
     let given = c.requires in
-    omega (arith, (goal.at.overflow_mul-m-2 c).Start, given.placeable.matrix, given.placeable.room, thin given given.placeable.matrix)
+    omega (arith, given.placeable.matrix, given.placeable.room, thin given given.placeable.matrix)
 
 pub spread-requires : goal.spread-requires
 spread-requires c =
