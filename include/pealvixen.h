@@ -1,6 +1,6 @@
 /* Pealvixen: truncated power series solutions of linear differential systems modulo a prime.
  *
- * Link with libpealvixen.a, which `rt staticlib pealvixen` writes into target/staticlib/.
+ * Link with libpealvixen.a, which `rust/archive` writes into target/staticlib/.
  *
  * A job has an order r from 1 to 8, a number of terms N from 1 to 4096, and a modulus p, a prime from 2 to 2147483647
  * with N at most p. Its five buffers are lent by the caller; each is handed over as a pointer and a length. The

@@ -1,8 +1,7 @@
 // Links the proved library, the one place where that is said: crates that depend on this one need no build script for
 // it.
 //
-// The archive is target/staticlib/libpealvixen.a for x86-64 and target/native/libpealvixen.a for every other machine;
-// `rust/archive` writes the one that fits the machine. PEALVIXEN_ARCHIVE names another folder.
+// The archive is target/staticlib/libpealvixen.a; `rust/archive` writes it. PEALVIXEN_ARCHIVE names another folder.
 
 use std::env;
 use std::path::{Path, PathBuf};
@@ -26,10 +25,6 @@ fn folder() -> PathBuf {
     if let Some(folder) = env::var_os("PEALVIXEN_ARCHIVE") {
         return PathBuf::from(folder);
     }
-    let kind = match env::var("CARGO_CFG_TARGET_ARCH").as_deref() {
-        Ok("x86_64") => "staticlib",
-        _ => "native",
-    };
     let here = env::var("CARGO_MANIFEST_DIR").expect("cargo says where the crate is");
-    Path::new(&here).join("../../target").join(kind)
+    Path::new(&here).join("../../target/staticlib")
 }

@@ -1,9 +1,9 @@
 // The solving program: reads one job sheet on standard input and prints its result sheet, or the line of its refusal.
 #![tactic(auto)]
 
-ghost use Rattle.std.specs.Prelude.{◌≡◌, length};
+ghost use Rattle.std.specs.Prelude.{◌≡◌, ◌≤◌, IfOk, length};
 
-use libc::{STDIN_FILENO, STDOUT_FILENO};
+use std::io::{self, Read, Write};
 
 // Room for one byte more than a sheet may have.
 fn room() -> [u8; 65537]
@@ -12,10 +12,26 @@ fn room() -> [u8; 65537]
     [0; 65537]
 }
 
-fn main() {
+// Reads until the buffer is full or the input ends: how many bytes it then holds.
+fn read_full<R: Read>(input: &mut R, buffer: &mut [u8]) -> io::Result<usize>
+    ensures { IfOk result (λ n. n ≤ length buffer.new) }
+{
+    let mut length = 0;
+    while length < buffer.len() {
+        let more = input.read(&mut buffer[length..])?;
+        if more == 0 {
+            break;
+        }
+        length += more;
+    }
+    Ok(length)
+}
+
+fn main(rt: HostRuntime) -> io::Result<()> {
     let mut sheet = room();
-    let length = io::read_full(STDIN_FILENO, &mut sheet);
-    let mut text = io::large_buffer();
+    let length = read_full(&mut rt.reader(), &mut sheet)?;
+    let mut text = [0; 65536];
     let end = reply::reply(&sheet[..length], &mut text);
-    io::write_all(STDOUT_FILENO, &text[..end]);
+    io::writer(&rt).write_all(&text[..end])?;
+    Ok(())
 }

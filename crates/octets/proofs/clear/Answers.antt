@@ -2,13 +2,12 @@
 -- measure is what is left of it.
 -- Assumes nothing.
 use mathlib.Core.Path.{◌≡◌, refl}
-use Prim.Native.Nat.{ℕ, ◌-◌}
+use Prim.Native.Nat.{ℕ}
 use native.Mathlib.Nat.{zero-add}
 use native.Mathlib.Decide.{dec_lt}
 use native.Mathlib.Omega.{arith}
-use borrow.Author.Rules.{rules}
 use lib.ListN.{length, get_or, length-set, get_or-eq_default}
-use Rattle.room.proofs.Runs.{Turn, turn_start, turn_next}
+use Rattle.room.proofs.Runs.{turn_start, turn_next}
 use Rattle.octets.proofs.clear.Goals as goal
 
 pub loop-i-init : goal.loop-i-init

@@ -2,13 +2,10 @@
 -- is filled with the words of the bytes; the measure is what is left of it.
 -- Assumes nothing.
 use mathlib.Core.Path.{sym}
-use Prim.Native.Nat.{◌-◌}
 use native.Mathlib.Nat.{zero-add}
 use native.Mathlib.Omega.{arith}
-use borrow.Author.Rules.{rules}
-use lib.ListN.{length, length-set}
-use Rattle.job.specs.Job.{bytes, word_at}
-use Rattle.room.proofs.Runs.{Turn, turn_start, turn_next}
+use lib.ListN.{length-set}
+use Rattle.room.proofs.Runs.{turn_start, turn_next}
 use Rattle.octets.proofs.Bytes.{carries_of}
 use Rattle.octets.proofs.decode.Goals as goal
 

@@ -1,13 +1,8 @@
 -- The invariants and measures.
-use mathlib.Core.Path.{sym}
 use Prim.Native.Nat.{◌-◌}
-use native.Mathlib.Nat.{zero-add}
-use native.Mathlib.Omega.{arith}
-use borrow.Author.Rules.{rules}
-use lib.ListN.{length, length-set}
+use lib.ListN.{length}
 use Rattle.job.specs.Job.{bytes, word_at}
-use Rattle.room.proofs.Runs.{Turn, turn_start, turn_next}
-use Rattle.octets.proofs.Bytes.{carries_of}
+use Rattle.room.proofs.Runs.{Turn}
 use Rattle.octets.proofs.decode.Given as goal
 
 abbrev pub invariant-loop-k : goal.invariant-loop-k

@@ -1,10 +1,7 @@
 -- `octets::encode` meets its contract. The loop's invariant is `Turn`; the measure is what is left of the words.
 -- Assumes nothing.
-use Prim.Native.Nat.{◌-◌}
 use native.Mathlib.Omega.{arith}
-use borrow.Author.Rules.{rules}
-use lib.ListN.{length}
-use Rattle.octets.proofs.Bytes.{Turn, turn_start, turn_next, turn_done}
+use Rattle.octets.proofs.Bytes.{turn_start, turn_next, turn_done}
 use Rattle.octets.proofs.encode.Goals as goal
 
 pub loop-j-init : goal.loop-j-init

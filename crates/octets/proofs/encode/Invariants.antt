@@ -1,9 +1,7 @@
 -- The invariants and measures.
 use Prim.Native.Nat.{◌-◌}
-use native.Mathlib.Omega.{arith}
-use borrow.Author.Rules.{rules}
 use lib.ListN.{length}
-use Rattle.octets.proofs.Bytes.{Turn, turn_start, turn_next, turn_done}
+use Rattle.octets.proofs.Bytes.{Turn}
 use Rattle.octets.proofs.encode.Given as goal
 
 abbrev pub invariant-loop-j : goal.invariant-loop-j

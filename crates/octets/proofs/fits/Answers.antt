@@ -1,12 +1,8 @@
 -- `octets::fits` meets its contract. The loop's invariant: the lengths that were passed are right; the measure is what
 -- is left of five.
 -- Assumes nothing.
-use mathlib.Core.Path.{◌≡◌}
-use Prim.Native.Nat.{ℕ, ◌-◌, ◌*◌, ◌≤◌, ◌<◌}
 use native.Mathlib.Omega.{arith}
 use borrow.Author.Count.{below_more}
-use borrow.Author.Rules.{rules}
-use lib.ListN.{get_or}
 use Rattle.primes.proofs.Answers.{decides_yes, decides_no}
 use Rattle.octets.proofs.Sizes.{terms_within, lengths_exact, length_wrong}
 use Rattle.octets.proofs.fits.Goals as goal

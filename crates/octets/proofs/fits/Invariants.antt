@@ -1,13 +1,7 @@
 -- The invariants and measures.
 use mathlib.Core.Path.{◌≡◌}
 use Prim.Native.Nat.{ℕ, ◌-◌, ◌*◌, ◌≤◌, ◌<◌}
-use native.Mathlib.Omega.{arith}
-use borrow.Author.Count.{below_more}
-use borrow.Author.Rules.{rules}
-use borrow.Author.Tests.{not-true, not-false}
 use lib.ListN.{get_or}
-use Rattle.primes.proofs.Answers.{decides_yes, decides_no}
-use Rattle.octets.proofs.Sizes.{terms_within, lengths_exact, length_wrong}
 use Rattle.octets.proofs.fits.Given as goal
 
 abbrev pub invariant-loop-b : goal.invariant-loop-b

@@ -1,7 +1,6 @@
 -- `octets::put_word` meets its contract: the four bytes are those of `word_put`.
 -- Assumes nothing.
 use native.Mathlib.Omega.{arith}
-use borrow.Author.Rules.{rules}
 use lib.ListN.{length-set}
 use Rattle.octets.proofs.Bytes.{word_put}
 use Rattle.octets.proofs.put_word.Goals as goal

@@ -1,10 +1,9 @@
 -- `refusal::check_buffer_bytes` meets its contract. The loop's invariant is `WordsPassed`.
 -- The measure is what is left of the words.
 -- Assumes nothing.
-use Prim.Native.Nat.{◌-◌}
 use native.Mathlib.Omega.{arith}
 use Rattle.job.specs.Job.{bytes}
-use Rattle.refusal.proofs.Words.{WordsPassed, passed_start, passed_next, passed_over, passed_all}
+use Rattle.refusal.proofs.Words.{passed_start, passed_next, passed_over, passed_all}
 use Rattle.refusal.proofs.check_buffer_bytes.Goals as goal
 
 pub loop-k-init : goal.loop-k-init

@@ -1,10 +1,9 @@
 -- `refusal::check_buffer_words` meets its contract. The loop's invariant is `WordsPassed`.
 -- The measure is what is left of the words.
 -- Assumes nothing.
-use Prim.Native.Nat.{◌-◌}
 use native.Mathlib.Omega.{arith}
 use Rattle.job.specs.Job.{words, word_at}
-use Rattle.refusal.proofs.Words.{WordsPassed, passed_start, passed_next, passed_over, passed_all}
+use Rattle.refusal.proofs.Words.{passed_start, passed_next, passed_over, passed_all}
 use Rattle.refusal.proofs.check_buffer_words.Goals as goal
 
 pub loop-i-init : goal.loop-i-init

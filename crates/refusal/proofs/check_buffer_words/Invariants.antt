@@ -1,8 +1,7 @@
 -- The invariants and measures.
 use Prim.Native.Nat.{◌-◌}
-use native.Mathlib.Omega.{arith}
-use Rattle.job.specs.Job.{words, word_at}
-use Rattle.refusal.proofs.Words.{WordsPassed, passed_start, passed_next, passed_over, passed_all}
+use Rattle.job.specs.Job.{words}
+use Rattle.refusal.proofs.Words.{WordsPassed}
 use Rattle.refusal.proofs.check_buffer_words.Given as goal
 
 abbrev pub invariant-loop-i : goal.invariant-loop-i

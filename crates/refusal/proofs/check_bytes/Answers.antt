@@ -3,7 +3,6 @@
 -- Assumes nothing.
 use mathlib.Core.Path.{refl}
 use native.Mathlib.Omega.{arith}
-use borrow.Author.Rules.{rules}
 use Rattle.job.specs.Job.{Job, buffers, bytes}
 use Rattle.refusal.specs.Checked.{job_of, ReadsLeft}
 use Rattle.refusal.proofs.Call.{call_refused, call_reads, call-checked}
@@ -23,7 +22,8 @@ reads
     → let arm = c.in-Reads in
     ReadsLeft bytes (given (goal.at.In-Reads c).After-check_shape-left) arm.k arm.l arm.m
 reads c =
-    call_reads c.check_shape-left.ensures (given (goal.at.In-Reads c).After-check_shape-left).lent refl c.in-Reads.is
+    let job = given (goal.at.In-Reads c).After-check_shape-left in
+    call_reads c.check_shape-left.ensures job.lent refl c.in-Reads.is
 
 pub overflow_cast-q : goal.overflow_cast-q
 overflow_cast-q c = record { fits = omega (arith, (reads c).half) }
@@ -39,7 +39,8 @@ check_buffer_bytes-requires-in-Reads-2 c = (reads (goal.at.check_buffer_bytes-re
 
 pub returns-in-Refused : goal.returns-in-Refused
 returns-in-Refused c =
-    call_refused c.check_shape-left.ensures (given (goal.at.returns-in-Refused c).After-check_shape-left).lent refl c.in-Refused.is
+    let job = given (goal.at.returns-in-Refused c).After-check_shape-left in
+    call_refused c.check_shape-left.ensures job.lent refl c.in-Refused.is
 
 pub returns-in-Reads : goal.returns-in-Reads
 returns-in-Reads c =

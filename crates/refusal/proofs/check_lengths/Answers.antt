@@ -1,10 +1,9 @@
 -- `refusal::check_lengths` meets its contract. The loop's invariant is `LengthsPassed`.
 -- The measure is what is left of five.
 -- Assumes nothing.
-use Prim.Native.Nat.{◌-◌, ◌≤◌}
 use native.Mathlib.Nat.{mul-le-mul}
 use native.Mathlib.Omega.{arith}
-use Rattle.refusal.proofs.Exact.{LengthsPassed, lengths_start, lengths-next, lengths-wrong, lengths_all}
+use Rattle.refusal.proofs.Exact.{lengths_start, lengths-next, lengths-wrong, lengths_all}
 use Rattle.refusal.proofs.check_lengths.Goals as goal
 
 pub loop-i-init : goal.loop-i-init

@@ -1,8 +1,6 @@
 -- The invariants and measures.
 use Prim.Native.Nat.{◌-◌, ◌≤◌}
-use native.Mathlib.Nat.{mul-le-mul}
-use native.Mathlib.Omega.{arith}
-use Rattle.refusal.proofs.Exact.{LengthsPassed, lengths_start, lengths-next, lengths-wrong, lengths_all}
+use Rattle.refusal.proofs.Exact.{LengthsPassed}
 use Rattle.refusal.proofs.check_lengths.Given as goal
 
 abbrev pub invariant-loop-i : goal.invariant-loop-i

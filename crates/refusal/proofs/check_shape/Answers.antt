@@ -1,6 +1,5 @@
 -- `refusal::check_shape` meets its contract: 1 to 4 and 10, then 5, as long as the answer is Done.
 -- Assumes nothing.
-use borrow.Author.Rules.{rules}
 use Rattle.refusal.proofs.Call.{limits_stop, limits_known, lengths_stop, lengths-done}
 use Rattle.refusal.proofs.check_shape.Goals as goal
 

@@ -1,7 +1,6 @@
 -- `refusal::check_size` meets its contract: what 1 to 4 refuse, and then 10; the product fits by the limits.
 -- Assumes nothing.
 use native.Mathlib.Omega.{arith}
-use borrow.Author.Rules.{rules}
 use Rattle.job.specs.declared.Answer.{Answer}
 use Rattle.job.specs.Refusal.{verdict_of}
 use Rattle.job.specs.Rules.{size_rules}
@@ -27,7 +26,8 @@ past c a size =
 
 pub returns-then-in_words : goal.returns-then-in_words
 unfolding size_rules verdict_of
-returns-then-in_words c = past (goal.at.returns-then-in_words c).In-Done _ (rw c.if-in_words.true (record { says = says_none }))
+returns-then-in_words c =
+    past (goal.at.returns-then-in_words c).In-Done _ (rw c.if-in_words.true (record { says = says_none }))
 
 limits
     : (c : In-Done)
@@ -39,12 +39,15 @@ pub overflow_mul-r : goal.overflow_mul-r
 overflow_mul-r c = record { fits = omega (arith, square-small (limits (goal.at.overflow_mul-r c).In-Done).order) }
 
 pub overflow_mul-r-2 : goal.overflow_mul-r-2
-overflow_mul-r-2 c = let l = limits (goal.at.overflow_mul-r-2 c).In-Done in record { fits = omega (arith, matrix-small l.order l.terms) }
+overflow_mul-r-2 c =
+    let l = limits (goal.at.overflow_mul-r-2 c).In-Done in
+    record { fits = omega (arith, matrix-small l.order l.terms) }
 
 pub returns-then-r-n-gt1024 : goal.returns-then-r-n-gt1024
 unfolding size_rules verdict_of
 returns-then-r-n-gt1024 c =
-    past (goal.at.returns-then-r-n-gt1024 c).In-Done _ (rw c.if-in_words.false (record { says = says_here _ _ c.if-r-n-gt1024.true }))
+    past (goal.at.returns-then-r-n-gt1024 c).In-Done _
+    (rw c.if-in_words.false (record { says = says_here _ _ c.if-r-n-gt1024.true }))
 
 pub returns : goal.returns
 unfolding size_rules verdict_of

@@ -1,6 +1,5 @@
 -- `refusal::first_refusal` meets its contract: the buffers one behind the other, as long as they are Done.
 -- Assumes nothing.
-use borrow.Author.Rules.{rules}
 use Rattle.job.specs.Rules.{read_rules}
 use Rattle.refusal.proofs.Judged.{judged_next, judged_stop, judged_last}
 use Rattle.refusal.proofs.first_refusal.Goals as goal

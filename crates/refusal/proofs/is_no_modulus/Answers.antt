@@ -1,7 +1,6 @@
 -- `refusal::is_no_modulus` meets its contract: p is out of its range, or its being no prime decides.
 -- Assumes nothing.
 use mathlib.Core.Logic.{inl}
-use borrow.Author.Rules.{rules}
 use Rattle.primes.proofs.Answers.{decides_yes}
 use Rattle.refusal.proofs.Limits.{no-modulus}
 use Rattle.refusal.proofs.is_no_modulus.Goals as goal

@@ -1,6 +1,5 @@
 -- `refusal::word_at` meets its contract: the four bytes are read where the definition reads them.
 -- Assumes nothing.
-use borrow.Author.Rules.{rules}
 use Rattle.job.specs.Job.{word_at}
 use Rattle.refusal.proofs.word_at.Goals as goal
 

@@ -1,6 +1,5 @@
 -- `room::clear_run` meets its contract: a part of the room is lent and cleared.
 -- Assumes nothing.
-use borrow.Author.Rules.{rules}
 use Rattle.room.proofs.Parts.{cleared_run}
 use Rattle.room.proofs.clear_run.Goals as goal
 

@@ -1,10 +1,7 @@
 -- `room::copy` meets its contract. The loop's invariant is `Turn`; the measure is what is left of the run.
 -- Assumes nothing.
 use mathlib.Core.Path.{refl}
-use Prim.Native.Nat.{◌-◌}
-use borrow.Author.Rules.{rules}
-use Rattle.room.specs.Room.{words_from}
-use Rattle.room.proofs.Runs.{Turn, turn_start, turn_next, turn_done}
+use Rattle.room.proofs.Runs.{turn_start, turn_next, turn_done}
 use Rattle.room.proofs.copy.Goals as goal
 
 pub loop-j-init : goal.loop-j-init

@@ -1,9 +1,7 @@
 -- The invariants and measures.
-use mathlib.Core.Path.{refl}
 use Prim.Native.Nat.{◌-◌}
-use borrow.Author.Rules.{rules}
 use Rattle.room.specs.Room.{words_from}
-use Rattle.room.proofs.Runs.{Turn, turn_start, turn_next, turn_done}
+use Rattle.room.proofs.Runs.{Turn}
 use Rattle.room.proofs.copy.Given as goal
 
 abbrev pub invariant-loop-j : goal.invariant-loop-j

@@ -2,12 +2,10 @@
 -- left of the entries.
 -- Assumes nothing.
 use mathlib.Core.Path.{refl}
-use Prim.Native.Nat.{◌+◌, ◌-◌, ◌*◌, ◌≤◌}
+use Prim.Native.Nat.{◌+◌, ◌*◌, ◌≤◌}
 use native.Mathlib.Omega.{arith}
 use lib.ListN.{length}
-use borrow.Author.Rules.{rules}
-use Rattle.room.specs.Room.{entries_from}
-use Rattle.room.proofs.Entries.{EntryTurn, entries_start, entries_next, entries_done}
+use Rattle.room.proofs.Entries.{entries_start, entries_next, entries_done}
 use Rattle.room.proofs.copy_entries.Goals as goal
 use Rattle.room.proofs.copy_entries.Goals.{In-loop-e}
 
@@ -20,10 +18,10 @@ read_inside : (c : In-loop-e)
     given.from + c.loop-e.e * given.c + given.m ≤ length given.src.now
 read_inside c = c.requires.source.within _ c.loop-e-test.true
 
-write-inside : (c : In-loop-e)
+write_inside : (c : In-loop-e)
     → let given = c.args in
     given.to + c.loop-e.e * given.n + given.m ≤ length c.loop-e.dst
-write-inside c =
+write_inside c =
     rw c.loop-e.invariant.len (c.requires.target.within _ c.loop-e-test.true)
 
 pub overflow_mul-e : goal.overflow_mul-e
@@ -33,13 +31,15 @@ pub overflow_add-from : goal.overflow_add-from
 overflow_add-from c = omega (arith, read_inside c)
 
 pub overflow_mul-e-in-loop-e : goal.overflow_mul-e-in-loop-e
-overflow_mul-e-in-loop-e c = omega (arith, write-inside (goal.at.overflow_mul-e-in-loop-e c).In-loop-e)
+overflow_mul-e-in-loop-e c = omega (arith, write_inside (goal.at.overflow_mul-e-in-loop-e c).In-loop-e)
 
 pub overflow_add-to : goal.overflow_add-to
-overflow_add-to c = omega (arith, write-inside (goal.at.overflow_add-to c).In-loop-e)
+overflow_add-to c = omega (arith, write_inside (goal.at.overflow_add-to c).In-loop-e)
 
 pub copy-requires : goal.copy-requires
-copy-requires c = (record { within = read_inside (goal.at.copy-requires c).In-loop-e }, record { within = write-inside (goal.at.copy-requires c).In-loop-e })
+copy-requires c =
+    let turn = (goal.at.copy-requires c).In-loop-e in
+    (record { within = read_inside turn }, record { within = write_inside turn })
 
 pub loop-e-preserved : goal.loop-e-preserved
 loop-e-preserved c =

@@ -1,11 +1,7 @@
 -- The invariants and measures.
-use mathlib.Core.Path.{refl}
-use Prim.Native.Nat.{◌+◌, ◌-◌, ◌*◌, ◌≤◌}
-use native.Mathlib.Omega.{arith}
-use lib.ListN.{length}
-use borrow.Author.Rules.{rules}
+use Prim.Native.Nat.{◌-◌}
 use Rattle.room.specs.Room.{entries_from}
-use Rattle.room.proofs.Entries.{EntryTurn, entries_start, entries_next, entries_done}
+use Rattle.room.proofs.Entries.{EntryTurn}
 use Rattle.room.proofs.copy_entries.Given as goal
 
 abbrev pub invariant-loop-e : goal.invariant-loop-e

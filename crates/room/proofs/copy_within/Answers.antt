@@ -1,9 +1,6 @@
 -- `room::copy_within` meets its contract. The loop's invariant is `Turn`; the measure is what is left of the run.
 -- Assumes nothing.
-use Prim.Native.Nat.{◌-◌}
-use borrow.Author.Rules.{rules}
-use Rattle.room.specs.Room.{words_from}
-use Rattle.room.proofs.Runs.{Turn, turn_start, turn_next, turn_read, turn_done}
+use Rattle.room.proofs.Runs.{turn_start, turn_next, turn_read, turn_done}
 use Rattle.room.proofs.copy_within.Goals as goal
 
 pub loop-j-init : goal.loop-j-init

@@ -1,8 +1,7 @@
 -- The invariants and measures.
 use Prim.Native.Nat.{◌-◌}
-use borrow.Author.Rules.{rules}
 use Rattle.room.specs.Room.{words_from}
-use Rattle.room.proofs.Runs.{Turn, turn_start, turn_next, turn_read, turn_done}
+use Rattle.room.proofs.Runs.{Turn}
 use Rattle.room.proofs.copy_within.Given as goal
 
 abbrev pub invariant-loop-j : goal.invariant-loop-j

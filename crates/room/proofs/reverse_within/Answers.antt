@@ -3,9 +3,7 @@
 use mathlib.Core.Path.{◌≡◌}
 use Prim.Native.Nat.{suc, ◌+◌, ◌-◌}
 use native.Mathlib.Omega.{arith}
-use borrow.Author.Rules.{rules}
-use Rattle.room.specs.Room.{words_back}
-use Rattle.room.proofs.Runs.{Turn, turn_start, turn_next, turn_read, turn_done}
+use Rattle.room.proofs.Runs.{turn_start, turn_next, turn_read, turn_done}
 use Rattle.room.proofs.reverse_within.Goals as goal
 
 pub loop-j-init : goal.loop-j-init

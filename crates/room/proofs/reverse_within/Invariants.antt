@@ -1,10 +1,7 @@
 -- The invariants and measures.
-use mathlib.Core.Path.{◌≡◌}
-use Prim.Native.Nat.{suc, ◌+◌, ◌-◌}
-use native.Mathlib.Omega.{arith}
-use borrow.Author.Rules.{rules}
+use Prim.Native.Nat.{◌-◌}
 use Rattle.room.specs.Room.{words_back}
-use Rattle.room.proofs.Runs.{Turn, turn_start, turn_next, turn_read, turn_done}
+use Rattle.room.proofs.Runs.{Turn}
 use Rattle.room.proofs.reverse_within.Given as goal
 
 abbrev pub invariant-loop-j : goal.invariant-loop-j
