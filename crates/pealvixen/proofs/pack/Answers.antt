@@ -3,7 +3,6 @@
 use mathlib.Core.Path.{◌≡◌, refl, ap}
 use Prim.Native.Nat.{◌+◌, ◌*◌}
 use native.Mathlib.Omega.{arith}
-use borrow.Author.Rules.{rules}
 use Rattle.job.specs.Refusal.{Verdict, done, refused, verdict_of}
 use Rattle.result.specs.declared.Places.{Places}
 use Rattle.result.specs.Print.{places_of}

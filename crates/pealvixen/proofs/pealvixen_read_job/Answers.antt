@@ -1,6 +1,5 @@
 -- `pealvixen::pealvixen_read_job` meets its contract: what the reader answers, told in numbers.
 -- Assumes nothing.
-use borrow.Author.Rules.{rules}
 use Rattle.pealvixen.proofs.Few.{job_line_fits}
 use Rattle.pealvixen.proofs.pealvixen_read_job.Goals as goal
 

@@ -3,7 +3,6 @@
 use mathlib.Core.Path.{sym, ap, ◌∙◌}
 use Prim.Native.Nat.{ℕ, ◌<◌}
 use native.Mathlib.Omega.{arith}
-use borrow.Author.Rules.{rules}
 use Rattle.header.specs.declared.Header.{Header}
 use Rattle.pealvixen.specs.Packing.{packed}
 use Rattle.pealvixen.specs.declared.SheetRead.{SheetRead}

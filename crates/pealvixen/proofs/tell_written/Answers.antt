@@ -2,7 +2,6 @@
 -- Assumes nothing.
 use mathlib.Core.Path.{sym, ap, ◌∙◌}
 use Prim.Native.Nat.{ℕ}
-use borrow.Author.Rules.{rules}
 use Rattle.result.specs.Write.{written_verdict}
 use Rattle.pealvixen.specs.declared.SheetWritten.{SheetWritten}
 use Rattle.pealvixen.specs.Packing.{packed}
