@@ -32,7 +32,8 @@ lines-total System x y r n e f =
     let rows = row_forms (form_of x) (98 ∷ []) 1 r in
     let a = total-matrix x.count x.low x.high (65 ∷ []) r 1 r in
     let b = total-rows x.count x.low x.high (98 ∷ []) 1 r in
-    total-append (entries ++ rows) (form_of y (118 ∷ []) ∷ []) ∙ rw (total-append entries rows, a, b, e, f) (omega arith)
+    total-append (entries ++ rows) (form_of y (118 ∷ []) ∷ []) ∙ rw (total-append entries rows, a, b, e, f)
+    (omega arith)
 lines-total Basis x y r n e f =
     let entries = matrix_forms (form_of x) (65 ∷ []) r 1 r in
     let rows = row_forms (form_of y) (86 ∷ []) 1 r in

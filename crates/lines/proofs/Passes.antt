@@ -180,7 +180,8 @@ module _ {s : List ℕ} {c d : Cursor} {h : List ℕ} (p : Past s c h d) (n : Nu
   cut : (z : ℕ → ℤ) (t : List ℕ) → line (form_of n whole) z i ++ t ≡ h ++ (line (form_of n tail) z i ++ t)
   cut z t = rw e (simp append_assoc)
 
-  pub headed_read : (r : Step) → Read s d (form_of n tail ∷ []) i old new r → Read s c (form_of n whole ∷ []) i old new r
+  pub headed_read
+      : (r : Step) → Read s d (form_of n tail ∷ []) i old new r → Read s c (form_of n whole ∷ []) i old new r
   headed_read (step.Next b) q =
       line-passed s c (form_of n whole) i old new q.kept b q.placed (omega (arith, p.byte, q.order))
       (omega (arith, q.line, p.line)) q.field q.long (one-range q.begins)

@@ -59,7 +59,8 @@ unfolding result_forms
 result_forms_lem h = refl
 
 -- the numbers of a result sheet are as many as the words of the result
-lines-total : (kind : Kind) (p n r : ℕ) → total (result_lines kind (balanced_form p n) r) ≡ sum_of (result_counts kind r n)
+lines-total
+    : (kind : Kind) (p n r : ℕ) → total (result_lines kind (balanced_form p n) r) ≡ sum_of (result_counts kind r n)
 unfolding result_lines result_counts sum_of
 lines-total System p n r =
     let form = balanced_form p n [] in

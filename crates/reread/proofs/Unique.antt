@@ -19,6 +19,7 @@ pub result_outcome_unique : {s : List ℕ} {rooms : List (List ℕ)} {x y : Read
     → ResultOutcome s rooms x a → ResultOutcome s rooms y b → (x ≡ y) × (a ≡ b)
 result_outcome_unique {s} {rooms} = outcome_unique result_forms result_header result_lengths result_total s rooms
 
-pub result_sheet_unique : {s : List ℕ} {g h : Header} {y z : ℕ → ℤ} → Sheet result_forms s g y → Sheet result_forms s h z
+pub result_sheet_unique
+    : {s : List ℕ} {g h : Header} {y z : ℕ → ℤ} → Sheet result_forms s g y → Sheet result_forms s h z
     → (g ≡ h) × Agree y z 0 (total (result_forms g))
 result_sheet_unique = sheet_unique result_forms result_header

@@ -85,7 +85,8 @@ left_start {rs = rs} ls e silent = record { rest = λ v s. rw e (says-append_don
 -- a writer that refuses has written nothing
 refused-outcome
     : {h : Header} {lent : List (List ℕ)} {text : List ℕ} {a : Answer}
-    → Says (write_rules h lent text) (verdict_of a) → ¬ (verdict_of a ≡ done) → WriteOutcome h lent text (Refused a) text
+    → Says (write_rules h lent text) (verdict_of a) → ¬ (verdict_of a ≡ done)
+    → WriteOutcome h lent text (Refused a) text
 unfolding written_verdict
 refused-outcome says not_done = record {
   verdict = says;

@@ -133,7 +133,8 @@ buffer-below p b s count positive exact silent =
     residues positive none (omega arith)
 
 append-below
-    : (p : ℕ) (y z : List ℕ) → ((k : ℕ) → get_or y k 0 < p) → ((k : ℕ) → get_or z k 0 < p) → (k : ℕ) → get_or (y ++ z) k 0 < p
+    : (p : ℕ) (y z : List ℕ) → ((k : ℕ) → get_or y k 0 < p) → ((k : ℕ) → get_or z k 0 < p) → (k : ℕ)
+    → get_or (y ++ z) k 0 < p
 append-below p [] z below more k = more k
 append-below p (x ∷ y) z below more zero = below 0
 append-below p (x ∷ y) z below more (suc k) = append-below p y z (λ j. below (suc j)) more k

@@ -17,8 +17,8 @@ ghost use Rattle.result.specs.Write.{WriteOutcome};
 
 use job::{Answer, Kind};
 
-// What a writer of result sheets answers: done, with the text's length in bytes, or why not. `written_verdict` of specs/
-// gives document 01's number and places for each.
+// What a writer of result sheets answers: done, with the text's length in bytes, or why not. `written_verdict` of
+// specs/ gives document 01's number and places for each.
 #[derive(Clone, Copy)]
 pub enum Written {
     Done { length: usize },

@@ -44,7 +44,8 @@ initial_same Equation Equation e = refl
 -- sheets whose line 1 begins with some fields and then the word of the kind
 module _ (before : List ℕ) where
   -- the byte behind those fields is the word's first
-  word_of_lem : (k : Kind) (h : Header) {s t : List ℕ} {z : ℕ → ℤ} → Begins s (header_form (before ++ word_of k) h ∷ []) z 0 t
+  word_of_lem
+      : (k : Kind) (h : Header) {s t : List ℕ} {z : ℕ → ℤ} → Begins s (header_form (before ++ word_of k) h ∷ []) z 0 t
       → get_or s (length before + 0) 0 ≡ initial k
   unfolding lines
   word_of_lem k h {s} b =

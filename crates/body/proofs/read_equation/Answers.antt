@@ -54,7 +54,8 @@ line_behind-requires c =
     let q = c.requires in
     let a = c.args in
     values_reached q (rows_right a.series a.r) _ c.line_behind-right.result
-    (a.l.one + a.l.two + a.values.count) (right_read (goal.at.line_behind-requires c).After-line_behind-right) (omega (arith, equation_three q))
+    (a.l.one + a.l.two + a.values.count) (right_read (goal.at.line_behind-requires c).After-line_behind-right)
+    (omega (arith, equation_three q))
 
 pub returns : goal.returns
 unfolding job_lines

@@ -51,7 +51,8 @@ line_behind-requires c =
     let q = c.requires in
     let a = c.args in
     values_reached q (entries_rows a.series a.r) _ c.rows_behind-right.result
-    (a.l.one + a.l.two + a.values.count) (rows-read (goal.at.line_behind-requires c).After-rows_behind-right) (omega (arith, system_three q))
+    (a.l.one + a.l.two + a.values.count) (rows-read (goal.at.line_behind-requires c).After-rows_behind-right)
+    (omega (arith, system_three q))
 
 pub returns : goal.returns
 unfolding job_lines

@@ -62,4 +62,5 @@ pub returns-in-Not : goal.returns-in-Not
 returns-in-Not c =
     let a = c.args in
     item_not a.s.now a.c c.end_field-e.result c.if-at-s.false c.if-s-at-ne9.false
-    c.end_field-e.ensures (ended (goal.at.returns-in-Not c).After-read_number) a.low a.high (said (goal.at.returns-in-Not c).After-read_number _ c.in-Not.is)
+    c.end_field-e.ensures (ended (goal.at.returns-in-Not c).After-read_number) a.low a.high
+    (said (goal.at.returns-in-Not c).After-read_number _ c.in-Not.is)

@@ -53,8 +53,9 @@ overflow_add-from c = omega (arith, places (goal.at.overflow_add-from c).In-loop
 pub read_rows-requires : goal.read_rows-requires
 read_rows-requires c =
     let pre = c.requires in
+    let room = places (goal.at.read_rows-requires c).In-loop-k in
     let p = c.loop-k.invariant.1 in (
-      record { placed = p.placed; low = pre.0.low; high = pre.0.high; room = places (goal.at.read_rows-requires c).In-loop-k },
+      record { placed = p.placed; low = pre.0.low; high = pre.0.high; room = room },
       p.field,
       omega (arith, pre.4),
     )

@@ -42,7 +42,8 @@ pub read_row-requires : goal.read_row-requires
 read_row-requires c =
     let pre = c.requires in
     let placed = c.loop-k.invariant.1.placed in
-    (record { placed = placed; low = pre.0.low; high = pre.0.high; room = places (goal.at.read_row-requires c).In-loop-k }, omega arith)
+    let room = places (goal.at.read_row-requires c).In-loop-k in
+    (record { placed = placed; low = pre.0.low; high = pre.0.high; room = room }, omega arith)
 
 -- the rows up to k, with what the reading of row k found
 found

@@ -67,4 +67,5 @@ returns c =
     let n = a.series in
     let behind : 0 + total (entries 89 n a.r) ≡ a.r * (a.r * n.count) =
     omega (arith, total-matrix n.count n.low n.high (89 ∷ []) a.r 1 a.r) in
-    read_more (first-passed (goal.at.returns c).In-Next) (entries 90 n a.r) new _ behind c.read_matrix.result c.read_matrix.ensures
+    read_more (first-passed (goal.at.returns c).In-Next) (entries 90 n a.r) new _ behind c.read_matrix.result
+    c.read_matrix.ensures

@@ -32,7 +32,9 @@ no_room c =
     rooms_done a.one.now a.two.now c.if-one-ne2048.false c.if-two-ne2048.false
 
 pub returns-then-s-gt65536 : goal.returns-then-s-gt65536
-returns-then-s-gt65536 c = outcome_stop result_words (no_room (goal.at.returns-then-s-gt65536 c).Else-two-ne2048) (start_large result_words c.if-s-gt65536.true)
+returns-then-s-gt65536 c =
+    outcome_stop result_words (no_room (goal.at.returns-then-s-gt65536 c).Else-two-ne2048)
+    (start_large result_words c.if-s-gt65536.true)
 
 pub begin-requires : goal.begin-requires
 begin-requires c = c.if-s-gt65536.false
@@ -57,4 +59,5 @@ returns-in-At c =
 
 pub returns-in-Stop : goal.returns-in-Stop
 returns-in-Stop c =
-    outcome_stop result_words (no_room ((goal.at.returns-in-Stop c).Else-two-ne2048)) (rw c.in-Stop.is at (begun (goal.at.returns-in-Stop c).After-begin))
+    outcome_stop result_words (no_room ((goal.at.returns-in-Stop c).Else-two-ne2048))
+    (rw c.in-Stop.is at (begun (goal.at.returns-in-Stop c).After-begin))

@@ -27,7 +27,8 @@ header-short c =
 
 pub put_matrix-b-requires : goal.put_matrix-b-requires
 put_matrix-b-requires c =
-    (c.requires.order, ready-earlier c.requires.first (header-short (goal.at.put_matrix-b-requires c).After-put_header-a) c.put_header-a.ensures.long)
+    let short = header-short (goal.at.put_matrix-b-requires c).After-put_header-a in
+    (c.requires.order, ready-earlier c.requires.first short c.put_header-a.ensures.long)
 
 pub put_matrix-requires : goal.put_matrix-requires
 put_matrix-requires c =

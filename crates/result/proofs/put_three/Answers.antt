@@ -24,7 +24,11 @@ put_field-c-requires c = omega (arith, behind_second (goal.at.put_field-c-requir
 
 pub put_byte-requires : goal.put_byte-requires
 put_byte-requires c =
-    omega (arith, field_room 1 c.ranges.z.fits (behind_second (goal.at.put_byte-requires c).After-put_field-b) c.put_field-c.ensures)
+    omega (
+      arith,
+      field_room 1 c.ranges.z.fits (behind_second (goal.at.put_byte-requires c).After-put_field-b)
+          c.put_field-c.ensures,
+    )
 
 pub returns : goal.returns
 returns c =

@@ -47,14 +47,17 @@ pub overflow_mul-count-2 : goal.overflow_mul-count-2
 overflow_mul-count-2 c = omega (arith, few c)
 
 pub returns-then-y-count : goal.returns-then-y-count
-returns-then-y-count c = basis-wrong (passed (goal.at.returns-then-y-count c).In-Done) (λ e. c.if-y-count.true (omega arith))
+returns-then-y-count c =
+    basis-wrong (passed (goal.at.returns-then-y-count c).In-Done) (λ e. c.if-y-count.true (omega arith))
 
 pub returns-then-z-count : goal.returns-then-z-count
-returns-then-z-count c = basis-inverse (passed (goal.at.returns-then-z-count c).In-Done) (omega arith) (λ e. c.if-z-count.true (omega arith))
+returns-then-z-count c =
+    basis-inverse (passed (goal.at.returns-then-z-count c).In-Done) (omega arith) (λ e. c.if-z-count.true (omega arith))
 
 pub returns-then-text-ne65536 : goal.returns-then-text-ne65536
 returns-then-text-ne65536 c =
-    basis-text (passed (goal.at.returns-then-text-ne65536 c).In-Done) (omega arith) (omega arith) (λ e. c.if-text-ne65536.true (omega arith))
+    basis-text (passed (goal.at.returns-then-text-ne65536 c).In-Done) (omega arith) (omega arith)
+    (λ e. c.if-text-ne65536.true (omega arith))
 
 -- a modulus within the limits has room in a word
 modulus-fits : (c : In-Done) → let a = c.args in a.p ≤ 2147483647
@@ -68,7 +71,8 @@ overflow_cast-result c = omega (arith, few (goal.at.overflow_cast-result c).In-D
 
 pub returns-then-k-count : goal.returns-then-k-count
 returns-then-k-count c =
-    basis-over (passed (goal.at.returns-then-k-count c).In-Done) (omega arith) (omega arith) (omega arith) c.find_over-k.ensures (omega arith)
+    basis-over (passed (goal.at.returns-then-k-count c).In-Done) (omega arith) (omega arith) (omega arith)
+    c.find_over-k.ensures (omega arith)
 
 pub overflow_cast-p-2 : goal.overflow_cast-p-2
 overflow_cast-p-2 c = omega (arith, modulus-fits (goal.at.overflow_cast-p-2 c).In-Done)
@@ -79,16 +83,19 @@ overflow_cast-result-then-l-count c =
 
 pub returns-then-l-count : goal.returns-then-l-count
 returns-then-l-count c =
-    basis-inverse-over (passed (goal.at.returns-then-l-count c).In-Done) (omega arith) (omega arith) (omega arith) c.find_over-k.ensures (omega arith)
+    basis-inverse-over (passed (goal.at.returns-then-l-count c).In-Done) (omega arith) (omega arith) (omega arith)
+    c.find_over-k.ensures (omega arith)
     c.find_over-l.ensures (omega arith)
 
 pub put_basis-length-requires : goal.put_basis-length-requires
 put_basis-length-requires c =
     let a = c.args in
-    basis-ready a.r a.n a.p (passed (goal.at.put_basis-length-requires c).In-Done) (omega arith) (omega arith) (omega arith)
+    basis-ready a.r a.n a.p (passed (goal.at.put_basis-length-requires c).In-Done) (omega arith) (omega arith)
+    (omega arith)
     c.find_over-k.ensures (omega arith) c.find_over-l.ensures (omega arith)
 
 pub returns : goal.returns
 returns c =
-    basis_done (passed (goal.at.returns c).In-Done) (omega arith) (omega arith) (omega arith) c.find_over-k.ensures (omega arith)
+    basis_done (passed (goal.at.returns c).In-Done) (omega arith) (omega arith) (omega arith) c.find_over-k.ensures
+    (omega arith)
     c.find_over-l.ensures (omega arith) c.put_basis-length.ensures

@@ -40,7 +40,8 @@ returns-then-y-count c =
 
 pub returns-then-text-ne65536 : goal.returns-then-text-ne65536
 returns-then-text-ne65536 c =
-    vector_text _ c.requires (passed (goal.at.returns-then-text-ne65536 c).In-Done) (omega arith) (λ e. c.if-text-ne65536.true (omega arith))
+    vector_text _ c.requires (passed (goal.at.returns-then-text-ne65536 c).In-Done) (omega arith)
+    (λ e. c.if-text-ne65536.true (omega arith))
 
 pub overflow_cast-p : goal.overflow_cast-p
 overflow_cast-p c =
@@ -52,7 +53,8 @@ overflow_cast-result c = omega (arith, few (goal.at.overflow_cast-result c).In-D
 
 pub returns-then-k-count : goal.returns-then-k-count
 returns-then-k-count c =
-    vector_over _ c.requires (passed (goal.at.returns-then-k-count c).In-Done) (omega arith) (omega arith) c.find_over-k.ensures (omega arith)
+    vector_over _ c.requires (passed (goal.at.returns-then-k-count c).In-Done) (omega arith) (omega arith)
+    c.find_over-k.ensures (omega arith)
 
 pub put_vector-length-requires : goal.put_vector-length-requires
 put_vector-length-requires c =
@@ -62,5 +64,6 @@ put_vector-length-requires c =
 
 pub returns : goal.returns
 returns c =
-    vector_done _ c.requires (passed (goal.at.returns c).In-Done) (omega arith) (omega arith) c.find_over-k.ensures (omega arith)
+    vector_done _ c.requires (passed (goal.at.returns c).In-Done) (omega arith) (omega arith) c.find_over-k.ensures
+    (omega arith)
     c.put_vector-length.ensures

@@ -32,7 +32,9 @@ rooms_done c =
     checked.says _ a.one.now a.two.now a.three.now refl refl refl refl
 
 pub returns-then-s-gt65536 : goal.returns-then-s-gt65536
-returns-then-s-gt65536 c = outcome_stop word_of (rooms_done (goal.at.returns-then-s-gt65536 c).In-Done) (start_large word_of c.if-s-gt65536.true)
+returns-then-s-gt65536 c =
+    outcome_stop word_of (rooms_done (goal.at.returns-then-s-gt65536 c).In-Done)
+    (start_large word_of c.if-s-gt65536.true)
 
 pub begin-requires : goal.begin-requires
 begin-requires c = c.if-s-gt65536.false
@@ -55,7 +57,8 @@ take_job-requires c =
 pub returns-in-At : goal.returns-in-At
 returns-in-At c =
     let r = (goal.at.returns-in-At c).In-Done in
-    outcome_taken word_of (rooms_done r) job_led (rw c.in-At.is at (begun (goal.at.returns-in-At c).After-begin)) c.take_job.ensures
+    outcome_taken word_of (rooms_done r) job_led (rw c.in-At.is at (begun (goal.at.returns-in-At c).After-begin))
+    c.take_job.ensures
 
 pub returns-in-Stop : goal.returns-in-Stop
 returns-in-Stop c =

@@ -37,7 +37,9 @@ returns-then-n-gt922337203685477580 c =
 
 pub returns-then-i-gt0 : goal.returns-then-i-gt0
 returns-then-i-gt0 c =
-    λ x h e. omega (arith, (next (goal.at.returns-then-i-gt0 c).After-wide-b x e).lead (omega (arith, c.if-i-gt0.true)), c.if-n-eq0.true)
+    λ x h e.
+    let known = next (goal.at.returns-then-i-gt0 c).After-wide-b x e in
+    omega (arith, known.lead (omega (arith, c.if-i-gt0.true)), c.if-n-eq0.true)
 
 pub returns-then-n-most : goal.returns-then-n-most
 returns-then-n-most c = λ x h e. omega (arith, (next (goal.at.returns-then-n-most c).After-wide-b x e).most)
