@@ -34,12 +34,12 @@ rows_behind-right-requires c =
     (reached, omega (arith, q.small.order))
 
 -- the entries of A, and what is found of the rows of b behind them
-rows-read
+rows_read
     : (c : After-rows_behind-right) →
     let a = c.args in
     Read a.s.now a.c (entries_rows a.series a.r) 0 a.w.now
     c.rows_behind-right.new.w c.rows_behind-right.result
-rows-read c =
+rows_read c =
     c.rows_behind-right.ensures.read _ _ _ (system-rows c.requires) c.read_matrix-matrix.ensures
 
 pub overflow_add-l : goal.overflow_add-l
@@ -51,10 +51,10 @@ line_behind-requires c =
     let q = c.requires in
     let a = c.args in
     values_reached q (entries_rows a.series a.r) _ c.rows_behind-right.result
-    (a.l.one + a.l.two + a.values.count) (rows-read (goal.at.line_behind-requires c).After-rows_behind-right)
+    (a.l.one + a.l.two + a.values.count) (rows_read (goal.at.line_behind-requires c).After-rows_behind-right)
     (omega (arith, system_three q))
 
 pub returns : goal.returns
 unfolding job_lines
 returns c =
-    c.line_behind.ensures.read _ _ _ (system_last c.requires) (rows-read (goal.at.returns c).After-rows_behind-right)
+    c.line_behind.ensures.read _ _ _ (system_last c.requires) (rows_read (goal.at.returns c).After-rows_behind-right)

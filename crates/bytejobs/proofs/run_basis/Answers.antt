@@ -19,23 +19,23 @@ returns-in_default c =
     answered_refused c.requires.fitting c.solve_bytes-answer.ensures c.in_default.not-Done
 
 -- Y and Z have four bytes for each word of their rooms
-rooms-whole : (c : After-solve_bytes-answer)
+rooms_whole : (c : After-solve_bytes-answer)
     → let s = c.args in
     let after = c.solve_bytes-answer.new in
     (length s.y.now ≡ 4 * length after.c)
     × (length s.z.now ≡ 4 * length after.d)
-rooms-whole c =
+rooms_whole c =
     let fitted = c.requires in
     let kept = c.solve_bytes-answer.auto in
     omega (arith, fitted.three_long, fitted.four_long, kept.c, kept.d)
 
 pub encode-requires : goal.encode-requires
 encode-requires c =
-    omega (arith, rooms-whole (goal.at.encode-requires c).After-solve_bytes-answer, basis_lengths c.requires)
+    omega (arith, rooms_whole (goal.at.encode-requires c).After-solve_bytes-answer, basis_lengths c.requires)
 
 pub encode-requires-2 : goal.encode-requires-2
 encode-requires-2 c =
-    omega (arith, rooms-whole (goal.at.encode-requires-2 c).After-solve_bytes-answer, basis_lengths c.requires)
+    omega (arith, rooms_whole (goal.at.encode-requires-2 c).After-solve_bytes-answer, basis_lengths c.requires)
 
 pub returns : goal.returns
 unfolding read_count

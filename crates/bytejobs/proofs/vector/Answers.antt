@@ -28,15 +28,15 @@ fitting c =
     rw c.kind_of-kind.ensures at (c.fits.ensures.yes c.if-not-fits.false)
 
 -- its third buffer has at most eight words
-rows-within : (c : Else-not-fits) → length c.args.three.now / 4 ≤ 8
-rows-within c = third_rows c.args.solver c.requires (fitting c)
+rows_within : (c : Else-not-fits) → length c.args.three.now / 4 ≤ 8
+rows_within c = third_rows c.args.solver c.requires (fitting c)
 
 pub slice_bounds-c-end : goal.slice_bounds-c-end
-slice_bounds-c-end c = rows-within (goal.at.slice_bounds-c-end c).Else-not-fits
+slice_bounds-c-end c = rows_within (goal.at.slice_bounds-c-end c).Else-not-fits
 
 pub slice_bounds-run_vector-end : goal.slice_bounds-run_vector-end
 slice_bounds-run_vector-end c =
-    sym (front_length 8 _ (rows-within (goal.at.slice_bounds-run_vector-end c).Else-not-fits))
+    sym (front_length 8 _ (rows_within (goal.at.slice_bounds-run_vector-end c).Else-not-fits))
 
 pub slice_bounds-d-end : goal.slice_bounds-d-end
 slice_bounds-d-end c = four_within (fitting (goal.at.slice_bounds-d-end c).Else-not-fits)
@@ -52,7 +52,7 @@ run_vector-requires c =
       c.requires,
       record {
         fitting = fit;
-        three_long = three_whole fit (front_length 8 _ (rows-within (goal.at.run_vector-requires c).Else-not-fits));
+        three_long = three_whole fit (front_length 8 _ (rows_within (goal.at.run_vector-requires c).Else-not-fits));
         four_long = four_whole fit (front_length 1024 _ (four_within fit));
       },
     )

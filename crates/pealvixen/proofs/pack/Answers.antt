@@ -9,11 +9,11 @@ use Rattle.result.specs.Print.{places_of}
 use Rattle.pealvixen.specs.Packing.{packed}
 use Rattle.pealvixen.proofs.pack.Goals as goal
 
-packed-places
+packed_places
     : (v : Verdict) → let q = places_of v in packed v ≡ q.0 + 256 * q.1 + 4294967296 * q.2
 unfolding places_of packed
-packed-places done = refl
-packed-places (refused number first second) = refl
+packed_places done = refl
+packed_places (refused number first second) = refl
 
 pub returns : goal.returns
 returns c =
@@ -21,4 +21,4 @@ returns c =
     let number = ap (λ (q : Places). q.0) e in
     let first = ap (λ (q : Places). q.1) e in
     let second = ap (λ (q : Places). q.2) e in
-    omega (arith, packed-places (verdict_of c.args.a))
+    omega (arith, packed_places (verdict_of c.args.a))

@@ -43,16 +43,16 @@ returns-in_default c =
     c.in_default.is c.read_matrix-first.ensures
 
 -- the entries of Y are passed
-first-passed
+first_passed
     : (c : In-Next) →
     let a = c.args in
     Passed a.s.now a.c (entries 89 a.series a.r) 0 a.w.now
     c.read_matrix-first.new.w c.in-Next.d
-first-passed c = rw c.in-Next.is at c.read_matrix-first.ensures
+first_passed c = rw c.in-Next.is at c.read_matrix-first.ensures
 
 pub read_matrix-requires : goal.read_matrix-requires
 read_matrix-requires c =
-    let p = first-passed (goal.at.read_matrix-requires c).In-Next in
+    let p = first_passed (goal.at.read_matrix-requires c).In-Next in
     let q = c.requires in
     let one = c.args.r * (c.args.r * c.args.series.count) in
     let ready = awaited_ready q (one + one) p.placed p.long (omega (arith, matrix-small q)) in
@@ -67,5 +67,5 @@ returns c =
     let n = a.series in
     let behind : 0 + total (entries 89 n a.r) ≡ a.r * (a.r * n.count) =
     omega (arith, total-matrix n.count n.low n.high (89 ∷ []) a.r 1 a.r) in
-    read_more (first-passed (goal.at.returns c).In-Next) (entries 90 n a.r) new _ behind c.read_matrix.result
+    read_more (first_passed (goal.at.returns c).In-Next) (entries 90 n a.r) new _ behind c.read_matrix.result
     c.read_matrix.ensures

@@ -18,8 +18,8 @@ pub put_header-a-requires : goal.put_header-a-requires
 put_header-a-requires c = omega (arith, c.requires.first.room)
 
 -- line 1 takes at most 79 bytes
-header-short : (c : After-put_header-a) → c.put_header-a.result ≤ 79
-header-short c =
+header_short : (c : After-put_header-a) → c.put_header-a.result ≤ 79
+header_short c =
     let a = c.args in
     let fits = c.ranges in
     let short = header-room Basis a.r a.n a.p fits.r.fits fits.n.fits fits.p.fits in
@@ -27,7 +27,7 @@ header-short c =
 
 pub put_matrix-b-requires : goal.put_matrix-b-requires
 put_matrix-b-requires c =
-    let short = header-short (goal.at.put_matrix-b-requires c).After-put_header-a in
+    let short = header_short (goal.at.put_matrix-b-requires c).After-put_header-a in
     (c.requires.order, ready-earlier c.requires.first short c.put_header-a.ensures.long)
 
 pub put_matrix-requires : goal.put_matrix-requires
@@ -38,7 +38,7 @@ put_matrix-requires c =
     let below = pre.first.below in
     let rows = matrix-room a.p c.ranges.p.fits a.y.now below a.n _ a.r 1 a.r in
     let end = put_within put (rows pre.order (omega arith) 0) in
-    let line-short = header-short (goal.at.put_matrix-requires c).After-put_header-a in
+    let line-short = header_short (goal.at.put_matrix-requires c).After-put_header-a in
     let same = put.long ∙ c.put_header-a.ensures.long in
     (pre.order, ready-earlier pre.second (omega (arith, line-short, end)) same)
 

@@ -60,11 +60,11 @@ returns-then-text-ne65536 c =
     (λ e. c.if-text-ne65536.true (omega arith))
 
 -- a modulus within the limits has room in a word
-modulus-fits : (c : In-Done) → let a = c.args in a.p ≤ 2147483647
-modulus-fits c = let a = c.args in omega (arith, (limits a.r a.n a.p (passed c)).half)
+modulus_fits : (c : In-Done) → let a = c.args in a.p ≤ 2147483647
+modulus_fits c = let a = c.args in omega (arith, (limits a.r a.n a.p (passed c)).half)
 
 pub overflow_cast-p : goal.overflow_cast-p
-overflow_cast-p c = omega (arith, modulus-fits (goal.at.overflow_cast-p c).In-Done)
+overflow_cast-p c = omega (arith, modulus_fits (goal.at.overflow_cast-p c).In-Done)
 
 pub overflow_cast-result : goal.overflow_cast-result
 overflow_cast-result c = omega (arith, few (goal.at.overflow_cast-result c).In-Done)
@@ -75,7 +75,7 @@ returns-then-k-count c =
     c.find_over-k.ensures (omega arith)
 
 pub overflow_cast-p-2 : goal.overflow_cast-p-2
-overflow_cast-p-2 c = omega (arith, modulus-fits (goal.at.overflow_cast-p-2 c).In-Done)
+overflow_cast-p-2 c = omega (arith, modulus_fits (goal.at.overflow_cast-p-2 c).In-Done)
 
 pub overflow_cast-result-then-l-count : goal.overflow_cast-result-then-l-count
 overflow_cast-result-then-l-count c =

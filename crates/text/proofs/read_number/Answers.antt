@@ -13,8 +13,8 @@ use Rattle.text.proofs.read_number.Goals as goal
 use Rattle.text.proofs.read_number.Goals.{After-read_natural, Then-first_byte-eq45}
 
 -- there is a minus sign
-minus-at : (c : Then-first_byte-eq45) → get_or c.args.f.now 0 0 ≡ 45
-minus-at c = sym c.first_byte.ensures ∙ c.if-first_byte-eq45.true
+minus_at : (c : Then-first_byte-eq45) → get_or c.args.f.now 0 0 ≡ 45
+minus_at c = sym c.first_byte.ensures ∙ c.if-first_byte-eq45.true
 
 -- what the digits behind a minus sign are found to be
 behind
@@ -32,11 +32,11 @@ behind d r e =
 pub returns-then-n-eq0 : goal.returns-then-n-eq0
 returns-then-n-eq0 c =
     let a = c.args in
-    minus_zero a.f.now a.low a.high (minus-at (goal.at.returns-then-n-eq0 c).Then-first_byte-eq45) _ c.if-n-eq0.true
+    minus_zero a.f.now a.low a.high (minus_at (goal.at.returns-then-n-eq0 c).Then-first_byte-eq45) _ c.if-n-eq0.true
     (behind (goal.at.returns-then-n-eq0 c).After-read_natural _ c.in-Of.is)
 
 pub returns-in-Not : goal.returns-in-Not
 returns-in-Not c =
     let a = c.args in
-    minus_not a.f.now a.low a.high (minus-at (goal.at.returns-in-Not c).Then-first_byte-eq45)
+    minus_not a.f.now a.low a.high (minus_at (goal.at.returns-in-Not c).Then-first_byte-eq45)
     (behind (goal.at.returns-in-Not c).After-read_natural _ c.in-Not.is)
