@@ -1,7 +1,9 @@
 #!/usr/bin/env python3
 """Spells the repository's own definitions, lemmas and fields as today's Rattle does, after port.py has run.
 
-usage: python3 tools/snake_names.py [--list]        at the top of the repository; --list prints the table and changes nothing
+usage: python3 tools/snake_names.py [--list | --rest]      at the top of the repository; --list prints the table and changes nothing;
+                                                           --rest spells the names of tools/rest_names.txt, whose types begin on a
+                                                           line of their own, so that the first run did not see them
 
 A camelCase word becomes snake_case. In a lemma's name a dash stays where it joins the names of two definitions
 (length-sum), and becomes an underscore before a plain word (sum_at). A field, a local name and a name of one word
@@ -126,8 +128,21 @@ def table(logic, others):
     return renamed, kinds, fell
 
 
+def respell_rest(paths):
+    renamed = dict(it.split() for it in read("tools/rest_names.txt").splitlines())
+    for path in paths:
+        text = read(path)
+        one = lambda it: it[0] if text[max(0, it.start() - 1) : it.start()] == "." else renamed.get(it[0], it[0])
+        now = re.sub(WORD, one, text)
+        if now != text:
+            with open(path, "w", encoding="utf-8") as it:
+                it.write(now)
+
+
 def main():
     logic, others = files()
+    if "--rest" in sys.argv:
+        return respell_rest(logic + others)
     renamed, kinds, fell = table(logic, others)
     if "--list" in sys.argv:
         for old in sorted(renamed):

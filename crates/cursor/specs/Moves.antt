@@ -16,14 +16,14 @@ abbrev pub line_past : Cursor → ℕ → Cursor
 line_past c end = record { byte = end; line = c.line + 1; field = 0 }
 
 -- from byte 4 of line 1, behind one tab, two lines further behind three tabs, at byte 20
-place-example
+place_example
     : place_past (record { byte = 4; line = 1; field = 1 }) 20 2 3 ≡ record { byte = 20; line = 3; field = 3 }
-place-example = refl
+place_example = refl
 
 -- from byte 4 of line 1, behind one tab, past a field that ends at byte 6
-field-example
+field_example
     : field_past (record { byte = 4; line = 1; field = 1 }) 6 ≡ record { byte = 6; line = 1; field = 2 }
-field-example = refl
+field_example = refl
 
 -- and from there past the line feed at byte 6
 line_example : line_past (record { byte = 6; line = 1; field = 2 }) 7 ≡ record { byte = 7; line = 2; field = 0 }

@@ -115,10 +115,10 @@ module _ {q : Modulus} {r n : ℕ} {a b start work : List ℕ} (given : Ready q 
     matrix-term k i j = behind_kept (at + ((i * r + j) * n + k)) (omega (arith, rows_inside given))
 
     -- the unknowns solve the equation's system
-    companion-series
+    companion_series
         : SystemSeries q.p r n (matrix_from w₁ at r n) (side_from w₁ side r) (λ i. get_or start i 0)
         (unknown z r n)
-    companion-series =
+    companion_series =
         system_cong given.terms_least
         (λ k i j s l m. ap (λ x. x % q.p) (matrix-term k i j))
         (λ k i s l. ap (λ x. x % q.p) (side-term k i s l))
@@ -128,7 +128,7 @@ module _ {q : Modulus} {r n : ℕ} {a b start work : List ℕ} (given : Ready q 
     pub ran : {y y' room : List ℕ} → Put 0 n (words_from z (r * n)) y y' → Zeros room
         → Ran q.p r n a b start y' room
     ran {y' = y'} put cleared =
-        ready_ran given system.companion companion-series word (λ k l. solved.below ((r + 0) * n + k)) cleared
+        ready_ran given system.companion companion_series word (λ k l. solved.below ((r + 0) * n + k)) cleared
       where
         word : (k : ℕ) → k < n → get_or y' k 0 ≡ unknown z r n k 0
         word k l = rw zero-add at (put.new k l) ∙ ap (λ i. get_or z (i * n + k) 0) (sym (add-zero r))

@@ -188,16 +188,16 @@ module _ {q : Modulus} {r n : ℕ} {a b start work : List ℕ} (given : Ready q 
   -- a solved room
   module _ {w₁ z : List ℕ} (system : Placed q r n a b start w₁) (solved : Varied q.p r n (r * r * n) w₁ z) where
     -- y, y', .. solve the equation's system
-    companion-series
+    companion_series
         : SystemSeries q.p r n (matrix_of r n m w₁) (side_of r n m w₁) (λ i. get_or start i 0) (answer_of r n m z)
-    companion-series =
+    companion_series =
         system_cong given.terms_least (λ k i j s x y. refl) (λ k i s x. refl)
         (λ i x. ap (λ c. c % q.p) (system.starts i x)) (λ k i s x. refl) solved.series
 
     pub newton_ran : {y y' room : List ℕ} → Put 0 n (words_from z (11 * m)) y y' → Zeros room
         → Ran q.p r n a b start y' room
     newton_ran {y' = y'} put cleared =
-        ready_ran given system.companion companion-series word (λ k l. solved.below (11 * m + (0 * 1 + 0) * n + k))
+        ready_ran given system.companion companion_series word (λ k l. solved.below (11 * m + (0 * 1 + 0) * n + k))
         cleared
       where
         word : (k : ℕ) → k < n → get_or y' k 0 ≡ answer_of r n m z k 0

@@ -19,7 +19,7 @@ use Rattle.job.specs.Rules.{check_rules, kind_rules, call_rules}
 use Rattle.job.specs.Outcome.{Solved, Outcome}
 use Rattle.job.proofs.Says.{says_none, says_here, says_past, says_head, says_split, OtherThanDone}
 use Rattle.job.proofs.Accepted.{Accepted, accepted}
-use Rattle.job.proofs.Outcomes.{outcome_done, words-below, words-filled}
+use Rattle.job.proofs.Outcomes.{outcome_done, words_below, words-filled}
 use Rattle.refusal.specs.Checked.{Checked, Judged, job_of}
 use Rattle.refusal.proofs.Judged.{judged_next, judged_stop}
 use Rattle.newton.proofs.Outcomes.{modulus_small}
@@ -86,7 +86,7 @@ module _ {r n p : ℕ} {a b start y w : List ℕ} (given : Accepted words (job_o
       below_two = rw modulus.self given.two.below;
       below_three =
           rw modulus.self
-          (words-below (modulus_small given.limits).some start_length (given.three (omega arith)));
+          (words_below (modulus_small given.limits).some start_length (given.three (omega arith)));
       lead = lead;
     }
 

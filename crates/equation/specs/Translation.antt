@@ -84,4 +84,5 @@ pub record Translated (p r n : ℕ) (a b : List ℕ) (at side free : ℕ) (w z :
   pub companion : Companion p r n (coefficient a n) (λ k. get_or b k 0) (matrix_from z at r n) (side_from z side r)
   pub below : Below p z
   pub cleared : (x : ℕ) → x < 3 * n → get_or z (free + x) 0 ≡ 0
-  pub kept : (x : ℕ) → Outside at (r * r * n) x → Outside side n x → Outside free (3 * n) x → get_or z x 0 ≡ get_or w x 0
+  pub kept : (x : ℕ) → Outside at (r * r * n) x → Outside side n x → Outside free (3 * n) x
+      → get_or z x 0 ≡ get_or w x 0

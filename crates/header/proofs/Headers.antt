@@ -10,7 +10,7 @@ use lib.ListN.{drop}
 use Rattle.job.specs.declared.Kind.{Kind}
 use Rattle.text.specs.Decimal.{digits}
 use Rattle.text.specs.Lines.{Form, Within, items, lines, total, Ranged, Begins}
-use Rattle.text.proofs.Lines.{begins-same}
+use Rattle.text.proofs.Lines.{begins_same}
 use Rattle.lines.specs.Forms.{shaped}
 use Rattle.cursor.specs.declared.Cursor.{Cursor}
 use Rattle.lines.specs.Steps.{nth, Passed, Breaks}
@@ -84,7 +84,7 @@ pub lead_same : (lead : List ℕ) {s a b : List ℕ} {g h : Header} {y z : ℕ �
     → (g.r ≡ h.r) × (g.n ≡ h.n) × (g.p ≡ h.p)
 unfolding header_numbers total
 lead_same lead {g = g} {h = h} d e u v =
-    let same = (begins-same (three_of {lead = lead} d u) (three_of {lead = lead} e v)).0 in
+    let same = (begins_same (three_of {lead = lead} d u) (three_of {lead = lead} e v)).0 in
     let r : pos g.r ≡ pos h.r = same.at 0 (omega arith) in
     let n : pos g.n ≡ pos h.n = same.at 1 (omega arith) in
     let p : pos g.p ≡ pos h.p = same.at 2 (omega arith) in

@@ -14,8 +14,8 @@ use Rattle.lines.specs.declared.Numbers.{Numbers}
 use Rattle.lines.specs.declared.Step.{Step}
 use Rattle.lines.specs.Forms.{numbered, row_forms, matrix_forms}
 use Rattle.lines.specs.Steps.{form_of, Passed, Breaks, Read}
-use Rattle.lines.proofs.Forms.{rows_snoc, matrix-snoc, total-rows, total-matrix}
-use Rattle.lines.proofs.Passes.{read_more, broken-first}
+use Rattle.lines.proofs.Forms.{rows_snoc, matrix_snoc, total-rows, total-matrix}
+use Rattle.lines.proofs.Passes.{read_more, broken_first}
 
 -- block k of m blocks ends within them
 pub block_within : (k m step : ℕ) → k < m → k * step + step ≤ m * step
@@ -23,11 +23,11 @@ block_within k m step h = omega (arith, mul-le-mul_right {m = suc k} {n = m} ste
 
 -- lines in blocks: F k is the first k blocks, and G k is the block behind them
 module _ (F G : ℕ → List Form) (snoc : (k : ℕ) → F (suc k) ≡ F k ++ G k) where
-  blocks-read
+  blocks_read
       : {s : List ℕ} {c d : Cursor} (k i : ℕ) {old mid : List ℤ} → Passed s c (F k) i old mid d
       → (new : List ℤ) (j : ℕ) → i + total (F k) ≡ j → (r : Step) → Read s d (G k) j mid new r
       → Read s c (F (k + 1)) i old new r
-  blocks-read {s} {c} k i {old} p new j at r q =
+  blocks_read {s} {c} k i {old} p new j at r q =
       let e : F (k + 1) ≡ F k ++ G k = ap F (add-one k) ∙ snoc k in
       subst (λ (fs : List Form). Read s c fs i old new r) (sym e) (read_more p (G k) new j at r q)
 
@@ -42,7 +42,7 @@ module _ (F G : ℕ → List Form) (snoc : (k : ℕ) → F (suc k) ≡ F k ++ G 
         subst (λ (j : ℕ). Breaks s c (F j) i old new number) same b
     | no e ↦
         subst (λ (fs : List Form). Breaks s c fs i old new number) (sym (snoc m))
-        (broken-first (blocks-broken k m i (omega arith) b) (G m))
+        (broken_first (blocks-broken k m i (omega arith) b) (G m))
   ]
 
 module _ (n : Numbers) (h : List ℕ) {s : List ℕ} {c : Cursor} {i : ℕ} {old : List ℤ} where
@@ -54,7 +54,7 @@ module _ (n : Numbers) (h : List ℕ) {s : List ℕ} {c : Cursor} {i : ℕ} {old
         → Read s c (row_forms (form_of n) h first (k + 1)) i old new r
     rows_next p new r q =
         let e = ap (λ (m : ℕ). i + m) (total-rows n.count n.low n.high h first k) in
-        blocks-read (row_forms (form_of n) h first) (λ k. form_of n (numbered h (first + k)) ∷ [])
+        blocks_read (row_forms (form_of n) h first) (λ k. form_of n (numbered h (first + k)) ∷ [])
         (rows_snoc (form_of n) h first) k i p new (i + k * n.count) e r q
 
     pub rows-broken
@@ -67,15 +67,15 @@ module _ (n : Numbers) (h : List ℕ) {s : List ℕ} {c : Cursor} {i : ℕ} {old
 
   -- the lines of a matrix
   module _ (columns k : ℕ) where
-    pub matrix-next
+    pub matrix_next
         : {d : Cursor} {mid : List ℤ} → Passed s c (matrix_forms (form_of n) h columns 1 k) i old mid d
         → (row : List ℕ) → row ≡ numbered h (1 + k) → (new : List ℤ) (r : Step)
         → Read s d (row_forms (form_of n) row 1 columns) (i + k * (columns * n.count)) mid new r
         → Read s c (matrix_forms (form_of n) h columns 1 (k + 1)) i old new r
-    matrix-next p row head new r q =
+    matrix_next p row head new r q =
         let e = ap (λ (m : ℕ). i + m) (total-matrix n.count n.low n.high h columns 1 k) in
-        blocks-read (matrix_forms (form_of n) h columns 1) (λ k. row_forms (form_of n) (numbered h (1 + k)) 1 columns)
-        (matrix-snoc (form_of n) h columns 1) k i p new (i + k * (columns * n.count)) e r (rw head at q)
+        blocks_read (matrix_forms (form_of n) h columns 1) (λ k. row_forms (form_of n) (numbered h (1 + k)) 1 columns)
+        (matrix_snoc (form_of n) h columns 1) k i p new (i + k * (columns * n.count)) e r (rw head at q)
 
     pub matrix-broken
         : (rows : ℕ) {new : List ℤ} {number : ℕ} → k < rows
@@ -83,4 +83,4 @@ module _ (n : Numbers) (h : List ℕ) {s : List ℕ} {c : Cursor} {i : ℕ} {old
         → Breaks s c (matrix_forms (form_of n) h columns 1 rows) i old new number
     matrix-broken rows l b =
         blocks-broken (matrix_forms (form_of n) h columns 1) (λ k. row_forms (form_of n) (numbered h (1 + k)) 1 columns)
-        (matrix-snoc (form_of n) h columns 1) k rows i l b
+        (matrix_snoc (form_of n) h columns 1) k rows i l b

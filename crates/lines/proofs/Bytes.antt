@@ -19,20 +19,20 @@ byte_none s at b t h e =
     let q : ◌≡◌ {A = ℕ} 0 1 = cc in
     omega arith
 
-pub byte-first
+pub byte_first
     : (s : List ℕ) (at b : ℕ) (t : List ℕ) → at < length s → drop at s ≡ b ∷ t
     → (get_or s at 0 ≡ b) × (drop (suc at) s ≡ t)
-byte-first s at b t h e = let n = drop-cons s at 0 h in (cc, cc)
+byte_first s at b t h e = let n = drop-cons s at 0 h in (cc, cc)
 
 pub stop_at : (s : List ℕ) (e : ℕ) → e < length s → get_or s e 0 ≤ 10 → Stop (drop e s)
 stop_at s e h b = rw (drop-cons s e 0 h) b
 
 -- one byte of given bytes h
 module _ (s h : List ℕ) (at i : ℕ) (l : i < length h) where
-  pub bytes-step
+  pub bytes_step
       : at + i < length s → get_or s (at + i) 0 ≡ get_or h i 0 → drop at s ≡ take i h ++ drop (at + i) s
       → drop at s ≡ take (suc i) h ++ drop (suc (at + i)) s
-  bytes-step g b e =
+  bytes_step g b e =
       e ∙ rw (drop-cons s (at + i) 0 g, take-suc h i 0 l, b)
       (sym (append_snoc (take i h) (get_or h i 0) (drop (suc (at + i)) s)))
 

@@ -25,18 +25,18 @@ module _ (form : List ℕ → Form) (head : List ℕ) where
   length-rows i zero = refl
   length-rows i (suc k) = ap suc (length-rows (suc i) k)
 
-  pub matrix-snoc
+  pub matrix_snoc
       : (columns i k : ℕ)
       → matrix_forms form head columns i (suc k)
       ≡ matrix_forms form head columns i k ++ row_forms form (numbered head (i + k)) 1 columns
   unfolding matrix_forms
-  matrix-snoc columns i zero =
+  matrix_snoc columns i zero =
       let e : i + 0 ≡ i = omega arith in
       append-nil (row_forms form (numbered head i) 1 columns) ∙ rw e
-  matrix-snoc columns i (suc k) =
+  matrix_snoc columns i (suc k) =
       let e : suc i + k ≡ i + suc k = omega arith in
       let first = row_forms form (numbered head i) 1 columns in
-      ap (λ (fs : List Form). first ++ fs) (matrix-snoc columns (suc i) k)
+      ap (λ (fs : List Form). first ++ fs) (matrix_snoc columns (suc i) k)
       ∙ rw e (sym (append_assoc first (matrix_forms form head columns (suc i) k) _))
 
 pub total-rows

@@ -12,13 +12,13 @@ use lib.ListN.{length, get_or, drop, set, length-set}
 use lib.Seq.{get_or-set_same, get_or-set_other, drop-cons}
 use Rattle.text.specs.Decimal.{spell}
 use Rattle.text.specs.Lines.{Form, Within, items, line}
-use Rattle.text.proofs.Lines.{items_stop, items_snoc, items_ext, items-front, line-cut}
+use Rattle.text.proofs.Lines.{items_stop, items_snoc, items_ext, items_front, line_cut}
 use Rattle.lines.specs.Forms.{shaped}
 use Rattle.cursor.specs.declared.Cursor.{Cursor}
 use Rattle.lines.specs.declared.Item.TheVariants as item
 use Rattle.lines.specs.Steps.{nth, Placed, Itemed, Passed, Breaks}
-use Rattle.lines.proofs.Bytes.{byte_none, byte-first}
-use Rattle.lines.proofs.Passes.{line-passed, line-broken}
+use Rattle.lines.proofs.Bytes.{byte_none, byte_first}
+use Rattle.lines.proofs.Passes.{line_passed, line-broken}
 
 -- j numbers are read, from the place c to the place d, and whatever numbers the line has, the rest of them stand at d
 pub record Going (s : List ℕ) (c d : Cursor) (f : Form) (i j : ℕ) (old new : List ℤ) : Type 0 where
@@ -90,7 +90,7 @@ module _ {s : List ℕ} {c d : Cursor} {n low high i j : ℕ} {old new : List �
               g.read ∙ rw (w.1.text, add-one j, items_snoc (nth new') i j, here, before)
               (sym (append_assoc (items (nth new) i j) (9 ∷ spell x) (drop e.byte s)));
           left = λ z t q. rw b
-              (items-front x (drop d.byte s) (drop e.byte s) w.1.text w.1.stop z (i + j) (n - (j + 1)) t
+              (items_front x (drop d.byte s) (drop e.byte s) w.1.text w.1.stop z (i + j) (n - (j + 1)) t
               (rest z t q)).1;
         }
 
@@ -99,13 +99,13 @@ module _ {s : List ℕ} {c d : Cursor} {n low high i j : ℕ} {old new : List �
     going_not w = line-broken s c f i old new g.kept (λ z t r q.
         let others = items z (suc (i + j)) (n - (j + 1)) in
         w (z (i + j)) (others ++ (10 ∷ t)) (r j h) (items_stop z (suc (i + j)) (n - (j + 1)) t)
-        (rest z t (q ∙ line-cut f z i t)
+        (rest z t (q ∙ line_cut f z i t)
         ∙ ap (λ (x : List ℕ). 9 ∷ x) (append_assoc (spell (z (i + j))) others (10 ∷ t))))
 
   module _ (h : n ≤ j) where
     last : (z : ℕ → ℤ) (t : List ℕ) → drop c.byte s ≡ line f z i ++ t → drop d.byte s ≡ 10 ∷ t
     unfolding items
-    last z t q = let e : n - j ≡ 0 = omega arith in rw e at (g.left z t (q ∙ line-cut f z i t))
+    last z t q = let e : n - j ≡ 0 = omega arith in rw e at (g.left z t (q ∙ line_cut f z i t))
 
     pub going_end : length s ≤ d.byte → Breaks s c (f ∷ []) i old new (c.line + 1)
     going_end l = line-broken s c f i old new g.kept (λ z t r q. byte_none s d.byte 10 t l (last z t q))
@@ -113,7 +113,7 @@ module _ {s : List ℕ} {c d : Cursor} {n low high i j : ℕ} {old new : List �
     module _ (l : d.byte < length s) where
       pub going_other : (get_or s d.byte 0 ≡ 10 → ⊥) → Breaks s c (f ∷ []) i old new (c.line + 1)
       going_other b =
-          line-broken s c f i old new g.kept (λ z t r q. b (byte-first s d.byte 10 t l (last z t q)).0)
+          line-broken s c f i old new g.kept (λ z t r q. b (byte_first s d.byte 10 t l (last z t q)).0)
 
       pub Going-done
           : get_or s d.byte 0 ≡ 10 → c.line ≤ c.byte
@@ -121,7 +121,7 @@ module _ {s : List ℕ} {c d : Cursor} {n low high i j : ℕ} {old new : List �
       Going-done b o =
           let e : j ≡ n = omega (arith, g.most) in
           let a : d.byte + 1 ≡ suc d.byte = add-one d.byte in
-          line-passed s c f i old new g.kept (record { byte = d.byte + 1; line = c.line + 1; field = 0 })
+          line_passed s c f i old new g.kept (record { byte = d.byte + 1; line = c.line + 1; field = 0 })
           (record { byte = omega arith; line = omega (arith, g.order); field = omega arith })
           (omega (arith, g.order)) refl refl g.long (λ k p. g.ranged k (omega arith))
-          (g.read ∙ rw (e, drop-cons s d.byte 0 l, b, a) (sym (line-cut f (nth new) i (drop (suc d.byte) s))))
+          (g.read ∙ rw (e, drop-cons s d.byte 0 l, b, a) (sym (line_cut f (nth new) i (drop (suc d.byte) s))))

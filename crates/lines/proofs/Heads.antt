@@ -9,7 +9,7 @@ use lib.ListN.{length, get_or, take, drop}
 use lib.Seq.{take-length}
 use Rattle.cursor.specs.declared.Cursor.{Cursor}
 use Rattle.lines.specs.Steps.{tabs, Placed, Past}
-use Rattle.lines.proofs.Bytes.{byte_none, byte-first, bytes-step, bytes_next, tabs_more, tabs-same}
+use Rattle.lines.proofs.Bytes.{byte_none, byte_first, bytes_step, bytes_next, tabs_more, tabs-same}
 
 -- the first i bytes of h stand at the cursor c, and if all of h does, the rest of it stands behind those
 pub record Heading (s : List ℕ) (c : Cursor) (h : List ℕ) (field i : ℕ) : Type 0 where
@@ -34,9 +34,9 @@ heading_start s c h p =
     }
 
 module _ {s : List ℕ} {c : Cursor} {h : List ℕ} {field i : ℕ} (g : Heading s c h field i) where
-  pub heading-done
+  pub heading_done
       : Placed s c → length h ≤ i → Past s c h (record { byte = c.byte + i; line = c.line; field = field })
-  heading-done p l =
+  heading_done p l =
       let e : i ≡ length h = omega (arith, g.within) in
       let all : take i h ≡ h = ap (λ (k : ℕ). take k h) e ∙ take-length h in
       record {
@@ -55,9 +55,9 @@ module _ {s : List ℕ} {c : Cursor} {h : List ℕ} {field i : ℕ} (g : Heading
     heading_none e t q = byte_none s (c.byte + i) (get_or h i 0) _ e (ahead t q)
 
     module _ (inside : c.byte + i < length s) where
-      pub heading-other
+      pub heading_other
           : (get_or s (c.byte + i) 0 ≡ get_or h i 0 → ⊥) → (t : List ℕ) → drop c.byte s ≡ h ++ t → ⊥
-      heading-other b t q = b (byte-first s (c.byte + i) (get_or h i 0) _ inside (ahead t q)).0
+      heading_other b t q = b (byte_first s (c.byte + i) (get_or h i 0) _ inside (ahead t q)).0
 
       next
           : get_or s (c.byte + i) 0 ≡ get_or h i 0 → (more : ℕ) → more ≡ c.field + tabs (take (suc i) h)
@@ -70,13 +70,13 @@ module _ {s : List ℕ} {c : Cursor} {h : List ℕ} {field i : ℕ} (g : Heading
             inside = omega arith;
             counted = e;
             few = omega (arith, g.few);
-            read = rw k (bytes-step s h c.byte i l inside b g.read);
-            left = λ t q. rw k (byte-first s (c.byte + i) (get_or h i 0) _ inside (ahead t q)).1;
+            read = rw k (bytes_step s h c.byte i l inside b g.read);
+            left = λ t q. rw k (byte_first s (c.byte + i) (get_or h i 0) _ inside (ahead t q)).1;
           }
 
       pub heading_tab : get_or s (c.byte + i) 0 ≡ get_or h i 0 → get_or h i 0 ≡ 9 → Heading s c h (field + 1) (i + 1)
       heading_tab b e = next b (field + 1) (omega (arith, g.counted, tabs_more h i l e)) (omega arith)
 
-      pub heading-plain
+      pub heading_plain
           : get_or s (c.byte + i) 0 ≡ get_or h i 0 → (get_or h i 0 ≡ 9 → ⊥) → Heading s c h field (i + 1)
-      heading-plain b e = next b field (omega (arith, g.counted, tabs-same h i l e)) (omega arith)
+      heading_plain b e = next b field (omega (arith, g.counted, tabs-same h i l e)) (omega arith)

@@ -72,10 +72,10 @@ module _ (s : List ℕ) (c : Cursor) (e : ℕ) (h : c.byte < length s) (b : get_
     stop : Stop (drop e s)
     stop = stop_at s e l (F.stop l)
 
-    pub item-is
+    pub item_is
         : Placed s c → (z : ℤ) → Numbered (field s (c.byte + 1) e) low high (signed.Of z)
         → Itemed s c low high (item.Is z (record { byte = e; line = c.line; field = c.field + 1 }))
-    item-is p z n = (
+    item_is p z n = (
       n.1,
       record {
         text = tabbed ∙ rw n.0;

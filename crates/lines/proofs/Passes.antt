@@ -8,7 +8,7 @@ use lib.IntN.{ℤ}
 use lib.ListN.{length, take, drop, length-append}
 use lib.Seq.{take-append-le, take-append-add}
 use Rattle.text.specs.Lines.{Form, Within, items, line, lines, total, Ranged, Begins}
-use Rattle.text.proofs.Lines.{Agree, begins-append, begins-rest, begins-ext, begins-as}
+use Rattle.text.proofs.Lines.{Agree, begins_append, begins_rest, begins_ext, begins_as}
 use Rattle.cursor.specs.declared.Cursor.{Cursor}
 use Rattle.lines.specs.declared.Numbers.{Numbers}
 use Rattle.lines.specs.declared.Step.{Step}
@@ -16,11 +16,11 @@ use Rattle.lines.specs.declared.Step.TheVariants as step
 use Rattle.lines.specs.Steps.{nth, form_of, Placed, Past, Passed, Breaks, Read}
 
 -- a text that begins with one line
-begins-one
+begins_one
     : (s : List ℕ) (f : Form) (z : ℕ → ℤ) (i : ℕ) (t : List ℕ)
     → ((j : ℕ) → j < f.count → Within f.low f.high (z (i + j))) → s ≡ line f z i ++ t → Begins s (f ∷ []) z i t
 unfolding lines Ranged
-begins-one s f z i t r e = record {
+begins_one s f z i t r e = record {
   ranged = (r, tt);
   text = e ∙ ap (λ (u : List ℕ). u ++ t) (sym (append-nil (line f z i)));
 }
@@ -29,11 +29,11 @@ one_text : {s : List ℕ} {f : Form} {z : ℕ → ℤ} {i : ℕ} {t : List ℕ} 
 unfolding lines
 one_text {f = f} {z = z} {i = i} {t = t} b = b.text ∙ ap (λ (u : List ℕ). u ++ t) (append-nil (line f z i))
 
-one-range
+one_range
     : {s : List ℕ} {f : Form} {z : ℕ → ℤ} {i : ℕ} {t : List ℕ} → Begins s (f ∷ []) z i t
     → (j : ℕ) → j < f.count → Within f.low f.high (z (i + j))
 unfolding Ranged
-one-range b = b.ranged.0
+one_range b = b.ranged.0
 
 -- a text begins with no lines
 begins_none : (s : List ℕ) (z : ℕ → ℤ) (i : ℕ) → Begins s [] z i s
@@ -44,18 +44,18 @@ module _ (s : List ℕ) (c : Cursor) (f : Form) (i : ℕ) (old new : List ℤ)
     (kept : (k : ℕ) → k < i → nth new k ≡ nth old k)
   where
     -- one line, at whose end d is
-    pub line-passed
+    pub line_passed
         : (d : Cursor) → Placed s d → c.byte ≤ d.byte → d.line ≡ c.line + 1 → d.field ≡ 0 → length new ≡ length old
         → ((j : ℕ) → j < f.count → Within f.low f.high (nth new (i + j)))
         → drop c.byte s ≡ line f (nth new) i ++ drop d.byte s → Passed s c (f ∷ []) i old new d
-    line-passed d p o l z long r e = record {
+    line_passed d p o l z long r e = record {
       placed = p;
       order = o;
       line = l;
       field = z;
       long = long;
       kept = kept;
-      begins = begins-one (drop c.byte s) f (nth new) i (drop d.byte s) r e;
+      begins = begins_one (drop c.byte s) f (nth new) i (drop d.byte s) r e;
     }
 
     -- or no such line
@@ -70,7 +70,7 @@ module _ (s : List ℕ) (c : Cursor) (f : Form) (i : ℕ) (old new : List ℤ)
       kept = kept;
       rest = drop c.byte s;
       begins = begins_none (drop c.byte s) (nth new) i;
-      none = λ z t b. none z t (one-range b) (one_text b);
+      none = λ z t b. none z t (one_range b) (one_text b);
     }
 
 -- where one line is broken, it does not stand
@@ -80,7 +80,7 @@ pub broken-one
 broken-one {f = f} q z t b =
     let only : 0 ≡ q.before = omega (arith, q.within) in
     let first = ap (λ (k : ℕ). take (suc k) (f ∷ [])) only in
-    q.none z t (begins-as first b)
+    q.none z t (begins_as first b)
 
 pub Passed-none
     : (s : List ℕ) (c : Cursor) (i : ℕ) (old : List ℤ) → Placed s c → c.field ≡ 0 → Passed s c [] i old old c
@@ -95,21 +95,21 @@ Passed-none s c i old p z = record {
 }
 
 -- numbers that are kept below an index are the same before it
-agree-kept
+agree_kept
     : (mid new : List ℤ) (i m : ℕ) → ((k : ℕ) → k < i + m → nth new k ≡ nth mid k) → Agree (nth mid) (nth new) i m
-agree-kept mid new i m kept = record { at = λ j h. sym (kept (i + j) (omega arith)) }
+agree_kept mid new i m kept = record { at = λ j h. sym (kept (i + j) (omega arith)) }
 
 -- other lines behind lines
 module _ {s : List ℕ} {c d : Cursor} {fs : List Form} {i : ℕ} {old mid : List ℤ} (p : Passed s c fs i old mid d)
     (gs : List Form) (new : List ℤ) where
-  kept-both
+  kept_both
       : ((k : ℕ) → k < i + total fs → nth new k ≡ nth mid k) → (k : ℕ) → k < i → nth new k ≡ nth old k
-  kept-both kept k h = kept k (omega arith) ∙ p.kept k h
+  kept_both kept k h = kept k (omega arith) ∙ p.kept k h
 
-  first-lines
+  first_lines
       : ((k : ℕ) → k < i + total fs → nth new k ≡ nth mid k)
       → Begins (drop c.byte s) fs (nth new) i (drop d.byte s)
-  first-lines kept = begins-ext (agree-kept mid new i (total fs) kept) p.begins
+  first_lines kept = begins_ext (agree_kept mid new i (total fs) kept) p.begins
 
   pub passed_more : (e : Cursor) → Passed s d gs (i + total fs) mid new e → Passed s c (fs ++ gs) i old new e
   passed_more e q = record {
@@ -118,13 +118,13 @@ module _ {s : List ℕ} {c d : Cursor} {fs : List Form} {i : ℕ} {old mid : Lis
     line = omega (arith, p.line, q.line, length-append fs gs);
     field = q.field;
     long = q.long ∙ p.long;
-    kept = kept-both q.kept;
-    begins = begins-append (first-lines q.kept) q.begins;
+    kept = kept_both q.kept;
+    begins = begins_append (first_lines q.kept) q.begins;
   }
 
-  pub passed-broken
+  pub passed_broken
       : (number : ℕ) → Breaks s d gs (i + total fs) mid new number → Breaks s c (fs ++ gs) i old new number
-  passed-broken number q =
+  passed_broken number q =
       let k = length fs + q.before in
       let e : suc k ≡ length fs + suc q.before = omega arith in
       let some = take-append-add fs gs q.before in
@@ -134,17 +134,17 @@ module _ {s : List ℕ} {c d : Cursor} {fs : List Form} {i : ℕ} {old mid : Lis
         before = k;
         line = omega (arith, p.line, q.line);
         within = omega (arith, q.within, length-append fs gs);
-        kept = kept-both q.kept;
+        kept = kept_both q.kept;
         rest = q.rest;
-        begins = rw some (begins-append (first-lines q.kept) q.begins);
-        none = λ z t b. q.none z t (begins-rest (take (suc q.before) gs) p.begins (rw more at b));
+        begins = rw some (begins_append (first_lines q.kept) q.begins);
+        none = λ z t b. q.none z t (begins_rest (take (suc q.before) gs) p.begins (rw more at b));
       }
 
 -- a line broken among lines that others follow
-pub broken-first
+pub broken_first
     : {s : List ℕ} {c : Cursor} {fs : List Form} {i : ℕ} {old new : List ℤ} {number : ℕ}
     → Breaks s c fs i old new number → (gs : List Form) → Breaks s c (fs ++ gs) i old new number
-broken-first {fs = fs} b gs =
+broken_first {fs = fs} b gs =
     let some = take-append-le b.before fs gs (omega (arith, b.within)) in
     let more = take-append-le (suc b.before) fs gs b.within in
     record {
@@ -165,14 +165,14 @@ pub read_more
 read_more {s} {d = d} {mid = mid} p gs new j e (step.Next b) q =
     passed_more p gs new b (subst (λ (k : ℕ). Passed s d gs k mid new b) (sym e) q)
 read_more {s} {d = d} {mid = mid} p gs new j e (step.Broken number) q =
-    passed-broken p gs new number (subst (λ (k : ℕ). Breaks s d gs k mid new number) (sym e) q)
+    passed_broken p gs new number (subst (λ (k : ℕ). Breaks s d gs k mid new number) (sym e) q)
 
 -- lines broken, so that others behind them are not read
-pub read-stop
+pub read_stop
     : (s : List ℕ) (c : Cursor) (fs gs : List Form) (i : ℕ) (old new : List ℤ) (r : Step) (number : ℕ)
     → r ≡ step.Broken number → Read s c fs i old new r → Read s c (fs ++ gs) i old new r
-read-stop s c fs gs i old new (step.Next d) number e q = absurd (let z : ◌≡◌ {A = ℕ} 0 1 = cc in omega arith)
-read-stop s c fs gs i old new (step.Broken n) number e q = broken-first q gs
+read_stop s c fs gs i old new (step.Next d) number e q = absurd (let z : ◌≡◌ {A = ℕ} 0 1 = cc in omega arith)
+read_stop s c fs gs i old new (step.Broken n) number e q = broken_first q gs
 
 -- a line whose first bytes h were passed, and whose head has the bytes `tail` behind them
 module _ {s : List ℕ} {c d : Cursor} {h : List ℕ} (p : Past s c h d) (n : Numbers) (tail whole : List ℕ)
@@ -183,21 +183,21 @@ module _ {s : List ℕ} {c d : Cursor} {h : List ℕ} (p : Past s c h d) (n : Nu
   pub headed_read
       : (r : Step) → Read s d (form_of n tail ∷ []) i old new r → Read s c (form_of n whole ∷ []) i old new r
   headed_read (step.Next b) q =
-      line-passed s c (form_of n whole) i old new q.kept b q.placed (omega (arith, p.byte, q.order))
-      (omega (arith, q.line, p.line)) q.field q.long (one-range q.begins)
+      line_passed s c (form_of n whole) i old new q.kept b q.placed (omega (arith, p.byte, q.order))
+      (omega (arith, q.line, p.line)) q.field q.long (one_range q.begins)
       (p.text ∙ ap (λ (t : List ℕ). h ++ t) (one_text q.begins) ∙ sym (cut (nth new) (drop b.byte s)))
   headed_read (step.Broken number) q =
       let same : c.line + 1 ≡ number = omega (arith, q.line, q.within, p.line) in
       subst (λ (k : ℕ). Breaks s c (form_of n whole ∷ []) i old new k) same
       (line-broken s c (form_of n whole) i old new q.kept (λ z t r w.
       let behind = append_cancel_left h _ _ (sym p.text ∙ w ∙ cut z t) in
-      broken-one q z t (begins-one (drop d.byte s) (form_of n tail) z i t r behind)))
+      broken-one q z t (begins_one (drop d.byte s) (form_of n tail) z i t r behind)))
 
 -- no line whose head begins with h stands where h does not
-pub headless-broken
+pub headless_broken
     : (s : List ℕ) (c : Cursor) (n : Numbers) (h tail whole : List ℕ) → whole ≡ h ++ tail → (i : ℕ) (old : List ℤ)
     → ((t : List ℕ) → drop c.byte s ≡ h ++ t → ⊥) → Breaks s c (form_of n whole ∷ []) i old old (c.line + 1)
-headless-broken s c n h tail whole e i old miss =
+headless_broken s c n h tail whole e i old miss =
     let f = form_of n whole in
     line-broken s c f i old old (λ k l. refl) (λ z t r q.
     let rest = items z i f.count ++ (10 ∷ []) in

@@ -39,8 +39,8 @@ module _ {q : Modulus} {r n l : ℕ} {a y0 s w v : List ℕ} (given : Ready q r 
       (record { within = omega (arith, given.room) }, record { within = omega arith })
 
   pub handed_over : {y z y' z' u : List ℕ} → Found q.p r n a y0 v → length y ≡ l → length z ≡ l
-      → length y' ≡ length y → length z' ≡ length z → Put 0 l (words_from v l) y y' → Put 0 l (words_from v (2 * l)) z z'
-      → Zeros u → Ran q.p r n a y0 y' z' u
+      → length y' ≡ length y → length z' ≡ length z → Put 0 l (words_from v l) y y'
+      → Put 0 l (words_from v (2 * l)) z z' → Zeros u → Ran q.p r n a y0 y' z' u
   handed_over {y' = y'} {z' = z'} found long long' leny lenz first second zeros = record {
     solution_below = copied_below r n l v size first given.modulus.some found.below long leny;
     inverse_below = copied_below r n (2 * l) v size second given.modulus.some found.below long' lenz;

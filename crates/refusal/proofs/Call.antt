@@ -91,10 +91,10 @@ module _ {h : Handed} {r n p : ℕ} {a : Answer} (limits : Limited h r n p a) wh
             let same = ap (λ (m : List ℕ). cells_of h * get_or m i 0) measured.exact in
             record { few = omega arith; within = omega (arith, mul-le-mul_left (cells_of h) part) }
 
-        reads-left
+        reads_left
             : ReadsLeft h (job_of kind r n p lent) (get_or l 0 0) (get_or l 1 0) (third_read kind (get_or l 2 0))
         unfolding check_rules
-        reads-left =
+        reads_left =
             let sized = Sized-of h kind r n lent (judged_done (lengths lent e) exactly) in
             let third = third_within kind (get_or l 2 0) in
             let three = reads_three h kind r n p lent in
@@ -106,10 +106,10 @@ module _ {h : Handed} {r n p : ℕ} {a : Answer} (limits : Limited h r n p a) wh
               checked = λ d j. judged_next (judged lent e) exactly (rw three (rw measured.exact at j));
             }
 
-      pub lengths-done
+      pub lengths_done
           : {m : ℕ} → b ≡ Done → m ≡ third_read kind (get_or l 2 0)
           → Shaped h kind r n p are (Reads (get_or l 0 0) (get_or l 1 0) m)
-      lengths-done exactly third = rw third (record { left = reads-left exactly })
+      lengths_done exactly third = rw third (record { left = reads_left exactly })
 
 -- what is left of a call on buffers with these lengths
 module _ {h : Handed} {kind : Kind} {r n p : ℕ} {are : List ℕ} {t : Left} (shaped : Shaped h kind r n p are t)
@@ -121,8 +121,8 @@ module _ {h : Handed} {kind : Kind} {r n p : ℕ} {are : List ℕ} {t : Left} (s
   call_reads found = rw found at (shaped.left lent e)
 
 -- the three buffers that are read, and the first refusal of them
-pub call-checked
+pub call_checked
     : {h : Handed} {job : Job} {k l m : ℕ} {a b c d : Answer} → ReadsLeft h job k l m → FirstRefusal a b c d
     → Judged (word_rules h job.p 1 job.lent.one 0 k) a → Judged (word_rules h job.p 2 job.lent.two 0 l) b
     → Judged (word_rules h job.p 3 job.lent.three 0 m) c → Checked h job d
-call-checked left first one two three = left.checked _ (first.says _ _ _ _ _ _ _ _ one two three)
+call_checked left first one two three = left.checked _ (first.says _ _ _ _ _ _ _ _ one two three)

@@ -35,11 +35,11 @@ module _ {are : List ℕ} (lent : List (List ℕ)) (lengths : are ≡ map length
   lent_long there = omega (arith, ap length lengths, length-map lent length)
 
 module _ {cells : ℕ} {should are : List ℕ} {i : ℕ} (passed : LengthsPassed cells should are i) where
-  pub lengths-next
+  pub lengths_next
       : i < length should → i < length are → get_or are i 0 ≡ cells * get_or should i 0
       → LengthsPassed cells should are (i + 1)
   unfolding length_rules
-  lengths-next more there right = record {
+  lengths_next more there right = record {
     rest = λ h lent e f v t.
         let same : length (get_or lent i []) ≡ cells_of h * get_or should i 0 = cc (lent_at lent f i) in
         let long = lent_long lent f i there in
@@ -48,11 +48,11 @@ module _ {cells : ℕ} {should are : List ℕ} {i : ℕ} (passed : LengthsPassed
         (says_past _ _ v (λ wrong. wrong same) (rw add-one at t)));
   }
 
-  pub lengths-wrong
+  pub lengths_wrong
       : i < length should → i < length are → get_or are i 0 ≢ cells * get_or should i 0
       → Compared cells should are (Length (i + 1))
   unfolding length_rules verdict_of
-  lengths-wrong more there wrong = record {
+  lengths_wrong more there wrong = record {
     says = λ h lent e f.
         let holds : length (get_or lent i []) ≢ cells_of h * get_or should i 0 =
         λ same. wrong (cc (lent_at lent f i)) in

@@ -16,10 +16,10 @@ outside_above low high x least = record {
   no = λ e o. ⊎_elim (λ l. omega arith) (λ l. omega (arith, ltb-false high x e)) o.apart;
 }
 
-pub no-modulus
+pub no_modulus
     : (b : Bool) (low high p : ℕ) → ¬ Outside low high p → Decides b (Prime p)
     → Decides (not b) (Outside low high p ⊎ (¬ Prime p))
-no-modulus b low high p in-range d = record {
+no_modulus b low high p in-range d = record {
   yes = λ e. inr (d.no (not-true b e));
   no = λ e. ⊎_elim in-range (λ n. n (d.yes (not-false b e)));
 }

@@ -19,8 +19,8 @@ use Rattle.result.specs.declared.Written.{Written}
 use Rattle.result.specs.Write.{WriteOutcome}
 use Rattle.reply.specs.Reply.{printed_of}
 use Rattle.reply.specs.Steps.{Callable, Refuses, Brings, Told}
-use Rattle.reply.proofs.Calls.{handed, job-handed, told_refused, told-done}
-use Rattle.reply.proofs.Writing.{left-lengths, left-silent}
+use Rattle.reply.proofs.Calls.{handed, job_handed, told_refused, told_done}
+use Rattle.reply.proofs.Writing.{left_lengths, left_silent}
 
 -- the first part of a buffer, as a call left it
 abbrev pub part_of : ℕ → List ℕ → List ℕ → List ℕ
@@ -39,7 +39,7 @@ module _ {h : Header} {one two three four work out l : List ℕ} (c : Callable h
     (buffers (take (get_or l 0 0) one) (take (get_or l 1 0) two) three' four' work')) where
   pub job_refused : {out' : List ℕ} {e : ℕ} → OtherThanDone a → Refuses (verdict_of a) out out' e
       → Told h (one ∷ two ∷ three ∷ []) out out' e
-  job_refused = told_refused (job-handed c m) o
+  job_refused = told_refused (job_handed c m) o
 
   module _ (d : a ≡ answer.Done) where
     fine : verdict_of a ≡ done
@@ -47,7 +47,7 @@ module _ {h : Header} {one two three four work out l : List ℕ} (c : Callable h
     fine = ap verdict_of d
 
     lengths : (length three' ≡ get_or l 2 0) × (length four' ≡ get_or l 3 0)
-    lengths = rw m.exact (left-lengths o fine)
+    lengths = rw m.exact (left_lengths o fine)
 
     pub parts-there
         : (get_or l 2 0 ≤ length (three' ++ drop (get_or l 2 0) three))
@@ -61,6 +61,6 @@ module _ {h : Header} {one two three four work out l : List ℕ} (c : Callable h
         → Brings w e → Told h (one ∷ two ∷ three ∷ []) out out' e
     job-told {w} written brings =
         let whole = rw (part_is three three' lengths.0, part_is four four' lengths.1) at written in
-        let silent = left-silent o fine out c.small.product c.room in
+        let silent = left_silent o fine out c.small.product c.room in
         let is = whole.brought (says_unique _ whole.verdict silent) in
-        told-done (job-handed c m) o fine (rw (sym (brings.is _ is)) at (whole.written _ is))
+        told_done (job_handed c m) o fine (rw (sym (brings.is _ is)) at (whole.written _ is))

@@ -96,12 +96,12 @@ module _ (one two : List ℕ) {three four work : List ℕ} (fourth : Blank 1024 
   handed-lent Equation r n s third =
       rw (blank_first fourth {m = n} s.four, blank_first scratch {m = 16 * (r * r * n)} s.five)
 
-pub job-handed
+pub job_handed
     : {h : Header} {one two three four work out l : List ℕ} → Callable h one two three four work out
     → Measured h.kind h.r h.n l
     → job_of h.kind h.r h.n h.p (handed l one two three four work)
     ≡ job_in h (one ∷ two ∷ three ∷ [])
-job-handed {h} {one} {two} c m =
+job_handed {h} {one} {two} c m =
     let s = spans h.kind c.small in
     rw m.exact
     (ap (job_of h.kind h.r h.n h.p)
@@ -122,12 +122,12 @@ module _ {h : Header} {rooms : List (List ℕ)} {job : Job} {a : Answer} {after 
         put = put;
       }
 
-  pub told-done
+  pub told_done
       : verdict_of a ≡ done
       → Put 0 (result_text h (printed_of h.kind after.three after.four)) before out e
       → Told h rooms before out e
   unfolding text_for
-  told-done q put = record {
+  told_done q put = record {
     text = result_text h (printed_of h.kind after.three after.four);
     called = record { answer = a; after = after; outcome = rw is at outcome; prints = rw q refl };
     put = put;

@@ -15,7 +15,7 @@ use Rattle.job.proofs.Says.{
   says_here,
   says_past,
   says-append_done,
-  says-append-refused,
+  says-append_refused,
 }
 use Rattle.text.specs.Lines.{items, lines}
 use Rattle.header.specs.declared.Header.{Header}
@@ -25,7 +25,7 @@ use Rattle.sheet.specs.JobSheet.{job_forms}
 use Rattle.sheet.specs.Rules.{read_verdict, room_rules, open_rules, sheet_rules}
 use Rattle.sheet.specs.Read.{JobOutcome}
 use Rattle.reply.specs.Reply.{refusal_line, fresh, Reply}
-use Rattle.reply.proofs.Reading.{reply-refused}
+use Rattle.reply.proofs.Reading.{reply_refused}
 
 -- no rule refuses the rooms
 rooms_silent : Says (room_rules fresh) done
@@ -38,7 +38,7 @@ large_outcome : {s : List ℕ} → 65536 < length s → JobOutcome s fresh (Refu
 unfolding sheet_rules open_rules read_verdict verdict_of
 large_outcome more = record {
   verdict = λ h l.
-      says-append-refused _ _ 10 0 0
+      says-append_refused _ _ 10 0 0
       (says-append_done (room_rules fresh) _ (refused 10 0 0) rooms_silent (says_here _ _ more));
   kept = λ a b c e. refl;
   taken = λ e. absurd (refused_not_done 10 0 0 e);
@@ -46,7 +46,7 @@ large_outcome more = record {
 
 pub reply_large : {s : List ℕ} → 65536 < length s → Reply s (refusal_line 10 0 0)
 unfolding read_verdict verdict_of
-reply_large more = reply-refused (large_outcome more) refl
+reply_large more = reply_refused (large_outcome more) refl
 
 -- line 1 has a line feed
 nothing_kept : (h : Header) → ¬ Keeps job_forms [] h 1
@@ -57,7 +57,7 @@ empty_outcome : JobOutcome [] fresh (Broken 1) fresh
 unfolding sheet_rules open_rules read_verdict
 empty_outcome = record {
   verdict = λ h l.
-      says-append-refused _ _ 9 1 0
+      says-append_refused _ _ 9 1 0
       (says-append_done (room_rules fresh) _ (refused 9 1 0) rooms_silent
       (says_past _ _ _ (λ q. omega arith) (says_here _ _ (nothing_kept h))));
   kept = λ a b c e. refl;
@@ -66,4 +66,4 @@ empty_outcome = record {
 
 pub reply_empty : Reply [] (refusal_line 9 1 0)
 unfolding read_verdict
-reply_empty = reply-refused empty_outcome refl
+reply_empty = reply_refused empty_outcome refl

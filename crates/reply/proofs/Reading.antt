@@ -50,11 +50,11 @@ opened_small s h says =
     }
 
 -- a basis leaves room 3, which holds zeros
-pub read-third
+pub read_third
     : {s one two three : List ℕ} {x : Reading} → JobOutcome s fresh x (one ∷ two ∷ three ∷ []) → {h : Header}
     → x ≡ Done h → h.kind ≡ Basis → Blank 2048 three
 unfolding read_verdict FilledAll read_lengths read_count lengths_of
-read-third {one = one} {two} {three} o {h} is basis =
+read_third {one = one} {two} {three} o {h} is basis =
     let t = o.taken (ap read_verdict is) in
     let g = t.header in
     let brought = t.brought in
@@ -80,11 +80,11 @@ module _ {s : List ℕ} {x : Reading} {rooms : List (List ℕ)} (o : JobOutcome 
       rw same at (opened_small s g (says_split (room_rules fresh) (open_rules job_forms s g) opens).1)
 
   -- what is printed for a text that is refused
-  pub reply-refused
+  pub reply_refused
       : {number first second : ℕ} → read_verdict x ≡ refused number first second
       → Reply s (refusal_line number first second)
   unfolding read_verdict
-  reply-refused {number} {first} {second} is = record {
+  reply_refused {number} {first} {second} is = record {
     reading = x;
     rooms = rooms;
     read = o;
@@ -114,12 +114,12 @@ module _ {s : List ℕ} {x : Reading} {rooms : List (List ℕ)} (o : JobOutcome 
     }
 
     -- the text is refused
-    pub replied-refused
+    pub replied_refused
         : {number first second : ℕ} → read_verdict x ≡ refused number first second
         → Put 0 (refusal_line number first second) before after e → Replied s before after e
-    replied-refused {number} {first} {second} is put = record {
+    replied_refused {number} {first} {second} is put = record {
       text = refusal_line number first second;
-      reply = reply-refused is;
+      reply = reply_refused is;
       put = put;
     }
 
@@ -133,4 +133,4 @@ module _ {s : List ℕ} {x : Reading} {rooms : List (List ℕ)} (o : JobOutcome 
             let brought = (o.taken q).brought in
             let never : ◌≡◌ {A = ℕ} 0 1 = cc in
             absurd (omega arith)
-        by (refused number first second) q put = replied-refused q put
+        by (refused number first second) q put = replied_refused q put

@@ -34,9 +34,9 @@ reply_unique {s} {t} {u} f g = by (read_verdict f.reading) refl
         f.refuses number first second e ∙ sym (g.refuses number first second other)
 
 -- every byte afterwards and the length follow from the text and the buffer
-pub replied-unique
+pub replied_unique
     : {s before a b : List ℕ} {l m : ℕ} → Replied s before a l → Replied s before b m → (a ≡ b) × (l ≡ m)
-replied-unique f g =
+replied_unique f g =
     let same = reply_unique f.reply g.reply in
     let other = rw (sym same) at g.put in
     (f.put.is ∙ sym other.is, f.put.end ∙ sym other.end)

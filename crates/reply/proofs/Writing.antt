@@ -31,27 +31,27 @@ filled-below f exact =
 
 module _ (r n p : ℕ) (lent after : Buffers) where
   -- the third and the fourth buffer are as long as they were
-  solved-lengths
+  solved_lengths
       : (kind : Kind) → Solved words kind r n p lent after
       → (length after.three ≡ length lent.three) × (length after.four ≡ length lent.four)
   unfolding Solved
-  solved-lengths System s = (ap length s.2, s.3.len)
-  solved-lengths Basis s = (s.2.len, s.3.len)
-  solved-lengths Equation s = (ap length s.2, s.3.len)
+  solved_lengths System s = (ap length s.2, s.3.len)
+  solved_lengths Basis s = (s.2.len, s.3.len)
+  solved_lengths Equation s = (ap length s.2, s.3.len)
 
   -- no rule of the writer holds
-  solved-silent
+  solved_silent
       : (kind : Kind) (out : List ℕ) → Solved words kind r n p lent after
       → length after.three ≡ get_or (lengths_of kind r n) 2 0 → length after.four ≡ get_or (lengths_of kind r n) 3 0
       → Says (limit_rules r n p ++ size_rules bytes r n) done → length out ≡ 65536
       → Says (write_rules (header kind r n p) (printed_of kind after.three after.four) out) done
   unfolding Solved printed_of lengths_of
-  solved-silent System out s third fourth limits whole =
+  solved_silent System out s third fourth limits whole =
       (vector_silent r refl limits fourth whole (filled-below s.3 fourth) (omega arith)).rest done says_none
-  solved-silent Basis out s third fourth limits whole =
+  solved_silent Basis out s third fourth limits whole =
       (basis_silent limits third fourth whole (filled-below s.2 third) (omega arith)
       (filled-below s.3 fourth) (omega arith)).rest done says_none
-  solved-silent Equation out s third fourth limits whole =
+  solved_silent Equation out s third fourth limits whole =
       let one = one-mul n in
       (vector_silent 1 refl limits (omega arith) whole (filled-below s.3 fourth) (omega arith)).rest done says_none
 
@@ -70,21 +70,21 @@ module _ {job : Job} {a : Answer} {after : Buffers} (o : Outcome words job a aft
       let exact = length_rules words 1 (lengths_of job.kind job.r job.n) (listed job.lent) in
       (says_split limits _ (says_split sized exact (says_split (sized ++ exact) _ checked).0).0).0
 
-  pub left-lengths
+  pub left_lengths
       : (length after.three ≡ get_or (lengths_of job.kind job.r job.n) 2 0)
       × (length after.four ≡ get_or (lengths_of job.kind job.r job.n) 3 0)
-  left-lengths =
-      let same = solved-lengths job.r job.n job.p job.lent after job.kind (o.solved d) in
+  left_lengths =
+      let same = solved_lengths job.r job.n job.p job.lent after job.kind (o.solved d) in
       let sized = (accepted words job checked).lengths in
       (same.0 ∙ omega (arith, sized.three), same.1 ∙ omega (arith, sized.four))
 
-  pub left-silent
+  pub left_silent
       : (out : List ℕ) → job.r * job.r * job.n ≤ 1024 → length out ≡ 65536
       → Says (write_rules (header job.kind job.r job.n job.p)
       (printed_of job.kind after.three after.four) out) done
   unfolding size_rules
-  left-silent out small whole =
+  left_silent out small whole =
       let size : Says (size_rules bytes job.r job.n) done = says_past _ _ done (λ q. omega arith) says_none in
       let limits = says-append_done (limit_rules job.r job.n job.p) _ done limits_passed size in
-      solved-silent job.r job.n job.p job.lent after job.kind out (o.solved d)
-      left-lengths.0 left-lengths.1 limits whole
+      solved_silent job.r job.n job.p job.lent after job.kind out (o.solved d)
+      left_lengths.0 left_lengths.1 limits whole

@@ -29,10 +29,10 @@ unfoldable pub refusal_line : ℕ → ℕ → ℕ → List ℕ
 refusal_line number first second = numbered (numbered (numbered refused_word number) first) second ++ (10 ∷ [])
 
 -- `refused`, 9, 2, 0
-refusalLine-example
+refusal_line_example
     : refusal_line 9 2 0 ≡ 114 ∷ 101 ∷ 102 ∷ 117 ∷ 115 ∷ 101 ∷ 100 ∷ 9 ∷ 57 ∷ 9 ∷ 50 ∷ 9 ∷ 48 ∷ 10 ∷ []
 unfolding refusal_line digits digits_up_to
-refusalLine-example = refl
+refusal_line_example = refl
 
 -- the rooms of the reader: three of 2048 words, zeros throughout
 abbrev pub fresh : List (List ℕ)
@@ -49,11 +49,11 @@ lent_of kind r n rooms = buffers (lent 0) (lent 1) (lent 2) (lent 3) (lent 4)
         cond (ltb k (read_count kind)) (take count (get_or rooms k [])) (replicate count 0)
 
 -- a basis of order 1 with two terms: A is 5 6, Y0 is 7
-lentOf-example
+lent_of_example
     : lent_of Basis 1 2 ((5 ∷ 6 ∷ 1 ∷ []) ∷ (7 ∷ 1 ∷ []) ∷ (1 ∷ 1 ∷ []) ∷ [])
     ≡ buffers (5 ∷ 6 ∷ []) (7 ∷ []) (0 ∷ 0 ∷ []) (0 ∷ 0 ∷ []) (replicate 32 0)
 unfolding lent_of lengths_of carried room_of read_count
-lentOf-example = refl
+lent_of_example = refl
 
 -- the job of a header, in rooms
 abbrev pub job_in : Header → List (List ℕ) → Job

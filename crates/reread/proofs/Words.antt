@@ -63,12 +63,12 @@ module _ (p : ℕ) (z : ℕ → ℤ) where
       length-append (residues_of p z i l) (flatten (words_of p z (i + l) ls))
       ∙ rw (length-residues i l, length-words (i + l) ls)
 
-  words-at
+  words_at
       : (i : ℕ) (ls : List ℕ) (k : ℕ) → k < sum_of ls
       → get_or (flatten (words_of p z i ls)) k 0 ≡ residue (z (i + k)) p
   unfolding words_of flatten sum_of
-  words-at i [] k h = absurd (omega arith)
-  words-at i (l ∷ ls) k h =
+  words_at i [] k h = absurd (omega arith)
+  words_at i (l ∷ ls) k h =
       let first = residues_of p z i l in
       let rest = flatten (words_of p z (i + l) ls) in
       elim (below_or k l) [
@@ -79,12 +79,12 @@ module _ (p : ℕ) (z : ℕ → ℤ) where
             let index : i + l + (k - l) ≡ i + k = omega arith in
             subst (λ (j : ℕ). get_or (first ++ rest) j 0 ≡ residue (z (i + k)) p) (sym place)
             (get_or-append-add first rest (k - l) 0
-            ∙ words-at (i + l) ls (k - l) (omega arith)
+            ∙ words_at (i + l) ls (k - l) (omega arith)
             ∙ rw index)
       ]
 
   pub words-residues : (i : ℕ) (ls : List ℕ) → Residues p z i (flatten (words_of p z i ls))
-  words-residues i ls = record { at = λ k h. words-at i ls k (rw (length-words i ls) at h) }
+  words-residues i ls = record { at = λ k h. words_at i ls k (rw (length-words i ls) at h) }
 
   -- the writer's rules of words are silent at them
   words_silent : 0 < p → (b i n j m : ℕ) → j + m ≡ n → Says (word_rules words p b (residues_of p z i n) j m) done
@@ -127,14 +127,14 @@ module _ (low high : ℕ) where
   alike_rows n head i zero = tt
   alike_rows n head i (suc k) = ((λ j h. (refl, refl)), alike_rows n head (suc i) k)
 
-  alike-matrix
+  alike_matrix
       : (n : ℕ) (head : List ℕ) (columns i k : ℕ) → Alike low high (matrix_forms (shaped n low high) head columns i k)
   unfolding Alike matrix_forms
-  alike-matrix n head columns i zero = tt
-  alike-matrix n head columns i (suc k) =
+  alike_matrix n head columns i zero = tt
+  alike_matrix n head columns i (suc k) =
       let first = row_forms (shaped n low high) (numbered head i) 1 columns in
       let rest = matrix_forms (shaped n low high) head columns (suc i) k in
-      alike_append first rest (alike_rows n (numbered head i) 1 columns) (alike-matrix n head columns (suc i) k)
+      alike_append first rest (alike_rows n (numbered head i) 1 columns) (alike_matrix n head columns (suc i) k)
 
   each_within : (fs : List Form) (z : ℕ → ℤ) (i : ℕ) → Alike low high fs → Ranged fs z i
       → (j : ℕ) → j < total fs → Within low high (z (i + j))
@@ -159,8 +159,8 @@ alike_lines Basis p n r =
     let high = p / 2 in
     let first = matrix_forms (balanced_form p n) (89 ∷ []) r 1 r in
     let second = matrix_forms (balanced_form p n) (90 ∷ []) r 1 r in
-    alike_append low high first second (alike-matrix low high n (89 ∷ []) r 1 r)
-    (alike-matrix low high n (90 ∷ []) r 1 r)
+    alike_append low high first second (alike_matrix low high n (89 ∷ []) r 1 r)
+    (alike_matrix low high n (90 ∷ []) r 1 r)
 alike_lines Equation p n r = alike_rows ((p - 1) / 2) (p / 2) n (121 ∷ []) 1 1
 
 alike_forms : (h : Header) → Alike ((h.p - 1) / 2) (h.p / 2) (result_forms h)
@@ -179,7 +179,7 @@ printed_again h z positive r = record {
   at = λ j l.
       let p = h.p in
       let e : 0 + j ≡ j = omega arith in
-      let word = rw e at (words-at p z 0 (result_lengths h) j (omega (arith, result_total h))) in
+      let word = rw e at (words_at p z 0 (result_lengths h) j (omega (arith, result_total h))) in
       let range = rw e at (each_within ((p - 1) / 2) (p / 2) (result_forms h) z 0 (alike_forms h) r j l) in
       sym (rw (e, word) (balanced_unique (z j) p positive (within_balanced p (z j) range)));
 }

@@ -14,10 +14,10 @@ laid_in (b ∷ lent) [] = []
 laid_in (b ∷ lent) (s ∷ rooms) = (b ++ drop (length b) s) ∷ laid_in lent rooms
 
 -- y of the words 1 4 in the first of two rooms
-laid-example
+laid_example
     : laid_in ((1 ∷ 4 ∷ []) ∷ []) ((0 ∷ 0 ∷ 9 ∷ []) ∷ (8 ∷ []) ∷ []) ≡ (1 ∷ 4 ∷ 9 ∷ []) ∷ (8 ∷ []) ∷ []
 unfolding laid_in
-laid-example = refl
+laid_example = refl
 
 -- as many buffers as a result of the kind has: y, or Y and Z
 pub record Whole (h : Header) (lent : List (List ℕ)) : Type 0 where

@@ -21,7 +21,7 @@ use Rattle.job.proofs.Says.{
   says_here,
   says_past,
   says-append_done,
-  says-append-refused,
+  says-append_refused,
   OtherThanDone,
   answer_other,
 }
@@ -57,20 +57,20 @@ vector_counts System r rows n e = rw e
 vector_counts Basis r rows n e = absurd e
 vector_counts Equation r rows n e = rw (e, one-mul)
 
-vector-rules
+vector_rules_lem
     : (kind : Kind) (r rows n p : ℕ) (y text : List ℕ) → Rows kind r rows
     → write_rules (header kind r n p) (y ∷ []) text
     ≡ (limit_rules r n p ++ size_rules bytes r n) ++ vector_rules (rows * n) p y text
 unfolding write_rules length_rules read_rules
-vector-rules kind r rows n p y text e =
+vector_rules_lem kind r rows n p y text e =
     rw (vector_counts kind r rows n e) (append_assoc (limit_rules r n p ++ size_rules bytes r n) _ _)
 
-basis-rules
+basis_rules_lem
     : (r n p : ℕ) (y z text : List ℕ)
     → write_rules (header Basis r n p) (y ∷ z ∷ []) text
     ≡ (limit_rules r n p ++ size_rules bytes r n) ++ basis_rules (r * r * n) p y z text
 unfolding write_rules length_rules read_rules result_counts
-basis-rules r n p y z text = append_assoc (limit_rules r n p ++ size_rules bytes r n) _ _
+basis_rules_lem r n p y z text = append_assoc (limit_rules r n p ++ size_rules bytes r n) _ _
 
 -- the rules that are left say what all say
 pub record Left (h : Header) (lent : List (List ℕ)) (text : List ℕ) (rs : List Rule) : Type 0 where
@@ -83,12 +83,12 @@ left_start
 left_start {rs = rs} ls e silent = record { rest = λ v s. rw e (says-append_done ls rs v silent s) }
 
 -- a writer that refuses has written nothing
-refused-outcome
+refused_outcome
     : {h : Header} {lent : List (List ℕ)} {text : List ℕ} {a : Answer}
     → Says (write_rules h lent text) (verdict_of a) → ¬ (verdict_of a ≡ done)
     → WriteOutcome h lent text (Refused a) text
 unfolding written_verdict
-refused-outcome says not_done = record {
+refused_outcome says not_done = record {
   verdict = says;
   kept = λ a b c e. refl;
   brought = λ e. absurd (not_done e);
@@ -96,21 +96,21 @@ refused-outcome says not_done = record {
 }
 
 -- 1 to 4 and 10 refuse
-pub limits-refuse
+pub limits_refuse
     : (r n p : ℕ) (kind : Kind) (lent : List (List ℕ)) (text : List ℕ) {a : Answer}
     → Judged (limit_rules r n p ++ size_rules bytes r n) a → OtherThanDone a
     → WriteOutcome (header kind r n p) lent text (Refused a) text
 unfolding write_rules
-limits-refuse r n p kind lent text {a} judged other =
-    refused-outcome (judged_stop _ (judged_stop _ judged other) other).says (answer_other a other)
+limits_refuse r n p kind lent text {a} judged other =
+    refused_outcome (judged_stop _ (judged_stop _ judged other) other).says (answer_other a other)
 
 module _ {h : Header} {lent : List (List ℕ)} {text : List ℕ} where
   -- no rule is left
-  left-none
+  left_none
       : {after : List ℕ} {l : ℕ} → Left h lent text [] → Put 0 (result_text h lent) text after l
       → WriteOutcome h lent text (Done l) after
   unfolding written_verdict
-  left-none {after} {l} left put = record {
+  left_none {after} {l} left put = record {
     verdict = left.rest done says_none;
     kept = λ a b c e. absurd (refused_not_done a b c (sym e));
     brought = λ e. ap Done (omega (arith, put.end));
@@ -122,7 +122,7 @@ module _ {h : Header} {lent : List (List ℕ)} {text : List ℕ} where
     left_wrong : length s ≢ should → WriteOutcome h lent text (Refused (Length b)) text
     unfolding verdict_of
     left_wrong wrong =
-        refused-outcome (left.rest _ (says_here _ rs (λ e. wrong (omega arith)))) (refused_not_done 5 b 0)
+        refused_outcome (left.rest _ (says_here _ rs (λ e. wrong (omega arith)))) (refused_not_done 5 b 0)
 
     left_exact : length s ≡ should → Left h lent text rs
     left_exact exact = record { rest = λ v t. left.rest v (says_past _ rs v (λ wrong. wrong (omega arith)) t) }
@@ -139,27 +139,27 @@ module _ (p b : ℕ) (s : List ℕ) where
   first : (i n : ℕ) → ((k : ℕ) → k < suc n → get_or s (i + k) 0 < p) → get_or s i 0 < p
   first i n below = let e : i + 0 ≡ i = omega arith in rw e at (below 0 (omega arith))
 
-  words-over
+  words_over
       : (i count j : ℕ) → j < count → ((k : ℕ) → k < j → get_or s (i + k) 0 < p) → p ≤ get_or s (i + j) 0
       → Says (word_rules words p b s i count) (refused 6 b (i + j))
   unfolding word_rules word_at
-  words-over i zero j h below over = absurd (omega arith)
-  words-over i (suc count) zero h below over =
+  words_over i zero j h below over = absurd (omega arith)
+  words_over i (suc count) zero h below over =
       let e : i + 0 ≡ i = omega arith in
       rw e (says_here _ _ (rw e at over))
-  words-over i (suc count) (suc j) h below over =
+  words_over i (suc count) (suc j) h below over =
       let e : i + suc j ≡ suc i + j = omega arith in
       let small = first i j below in
-      let rest = words-over (suc i) count j (omega arith) (behind i j below) (rw e at over) in
+      let rest = words_over (suc i) count j (omega arith) (behind i j below) (rw e at over) in
       rw e (says_past _ _ _ (λ more. omega arith) rest)
 
-  words-none
+  words_none
       : (i count : ℕ) → ((k : ℕ) → k < count → get_or s (i + k) 0 < p) → Says (word_rules words p b s i count) done
   unfolding word_rules word_at
-  words-none i zero below = says_none
-  words-none i (suc count) below =
+  words_none i zero below = says_none
+  words_none i (suc count) below =
       let small = first i count below in
-      says_past _ _ _ (λ more. omega arith) (words-none (suc i) count (behind i count below))
+      says_past _ _ _ (λ more. omega arith) (words_none (suc i) count (behind i count below))
 
 -- the rules of a buffer's words are next
 module _ {h : Header} {lent : List (List ℕ)} {text : List ℕ} (rs : List Rule) (p b : ℕ) {s : List ℕ} {count k : ℕ}
@@ -173,36 +173,36 @@ module _ {h : Header} {lent : List (List ℕ)} {text : List ℕ} (rs : List Rule
   left_over more =
       let e : 0 + k ≡ k = omega arith in
       let over : p ≤ get_or s (0 + k) 0 = rw e (found.over (omega arith)) in
-      let says = words-over p b s 0 count k more below over in
-      refused-outcome (left.rest _ (says-append-refused _ rs _ _ _ (rw e at says))) (refused_not_done 6 b k)
+      let says = words_over p b s 0 count k more below over in
+      refused_outcome (left.rest _ (says-append_refused _ rs _ _ _ (rw e at says))) (refused_not_done 6 b k)
 
   left_below : count ≤ k → Left h lent text rs
   left_below none = record {
-    rest = λ v t. left.rest v (says-append_done _ rs v (words-none p b s 0 count (λ j l. below j (omega arith))) t);
+    rest = λ v t. left.rest v (says-append_done _ rs v (words_none p b s 0 count (λ j l. below j (omega arith))) t);
   }
 
 -- the tests of a writer of y, and what each finds
 module _ {kind : Kind} {r n p : ℕ} {y text : List ℕ} (rows : ℕ) (order : Rows kind r rows)
     (passed : Says (limit_rules r n p ++ size_rules bytes r n) done) where
   vector_first : Left (header kind r n p) (y ∷ []) text (vector_rules (rows * n) p y text)
-  vector_first = left_start _ (vector-rules kind r rows n p y text order) passed
+  vector_first = left_start _ (vector_rules_lem kind r rows n p y text order) passed
 
   pub vector_wrong : length y ≢ rows * n → WriteOutcome (header kind r n p) (y ∷ []) text (Refused (Length 1)) text
   vector_wrong = left_wrong 1 _ y vector_first
 
   module _ (exact : length y ≡ rows * n) where
-    vector-second
+    vector_second
         : Left (header kind r n p) (y ∷ []) text (
         wrong_length 2 65536 text ∷ (word_rules words p 1 y 0 (rows * n) ++ [])
         )
-    vector-second = left_exact 1 _ y vector_first exact
+    vector_second = left_exact 1 _ y vector_first exact
 
     pub vector_text : length text ≢ 65536 → WriteOutcome (header kind r n p) (y ∷ []) text (Refused (Length 2)) text
-    vector_text = left_wrong 2 _ text vector-second
+    vector_text = left_wrong 2 _ text vector_second
 
     module _ (whole : length text ≡ 65536) {k : ℕ} (found : FirstOver p y k) where
       vector_words : Left (header kind r n p) (y ∷ []) text (word_rules words p 1 y 0 (rows * n) ++ [])
-      vector_words = left_exact 2 _ text vector-second whole
+      vector_words = left_exact 2 _ text vector_second whole
 
       pub vector_over : k < rows * n → WriteOutcome (header kind r n p) (y ∷ []) text (Refused (Word 1 k)) text
       vector_over = left_over [] p 1 vector_words exact found
@@ -214,59 +214,59 @@ module _ {kind : Kind} {r n p : ℕ} {y text : List ℕ} (rows : ℕ) (order : R
         pub vector_done
             : {after : List ℕ} {l : ℕ} → Put 0 (result_text (header kind r n p) (y ∷ [])) text after l
             → WriteOutcome (header kind r n p) (y ∷ []) text (Done l) after
-        vector_done = left-none vector_silent
+        vector_done = left_none vector_silent
 
 -- and of a writer of Y and Z
 module _ {r n p : ℕ} {y z text : List ℕ} (passed : Says (limit_rules r n p ++ size_rules bytes r n) done) where
   basis_first : Left (header Basis r n p) (y ∷ z ∷ []) text (basis_rules (r * r * n) p y z text)
-  basis_first = left_start _ (basis-rules r n p y z text) passed
+  basis_first = left_start _ (basis_rules_lem r n p y z text) passed
 
-  pub basis-wrong
+  pub basis_wrong
       : length y ≢ r * r * n → WriteOutcome (header Basis r n p) (y ∷ z ∷ []) text (Refused (Length 1)) text
-  basis-wrong = left_wrong 1 _ y basis_first
+  basis_wrong = left_wrong 1 _ y basis_first
 
   module _ (first : length y ≡ r * r * n) where
-    basis-second
+    basis_second
         : Left (header Basis r n p) (y ∷ z ∷ []) text (
         wrong_length 2 (r * r * n) z ∷ wrong_length 3 65536 text ∷ both_words (r * r * n) p y z
         )
-    basis-second = left_exact 1 _ y basis_first first
+    basis_second = left_exact 1 _ y basis_first first
 
-    pub basis-inverse
+    pub basis_inverse
         : length z ≢ r * r * n → WriteOutcome (header Basis r n p) (y ∷ z ∷ []) text (Refused (Length 2)) text
-    basis-inverse = left_wrong 2 _ z basis-second
+    basis_inverse = left_wrong 2 _ z basis_second
 
     module _ (second : length z ≡ r * r * n) where
-      basis-third
+      basis_third
           : Left (header Basis r n p) (y ∷ z ∷ []) text (wrong_length 3 65536 text ∷ both_words (r * r * n) p y z)
-      basis-third = left_exact 2 _ z basis-second second
+      basis_third = left_exact 2 _ z basis_second second
 
-      pub basis-text
+      pub basis_text
           : length text ≢ 65536 → WriteOutcome (header Basis r n p) (y ∷ z ∷ []) text (Refused (Length 3)) text
-      basis-text = left_wrong 3 _ text basis-third
+      basis_text = left_wrong 3 _ text basis_third
 
       module _ (whole : length text ≡ 65536) {k : ℕ} (found : FirstOver p y k) where
         basis_words : Left (header Basis r n p) (y ∷ z ∷ []) text (both_words (r * r * n) p y z)
-        basis_words = left_exact 3 _ text basis-third whole
+        basis_words = left_exact 3 _ text basis_third whole
 
-        pub basis-over
+        pub basis_over
             : k < r * r * n → WriteOutcome (header Basis r n p) (y ∷ z ∷ []) text (Refused (Word 1 k)) text
-        basis-over = left_over _ p 1 basis_words first found
+        basis_over = left_over _ p 1 basis_words first found
 
         module _ (none : r * r * n ≤ k) {l : ℕ} (next : FirstOver p z l) where
-          basis-rest
+          basis_rest
               : Left (header Basis r n p) (y ∷ z ∷ []) text (word_rules words p 2 z 0 (r * r * n) ++ [])
-          basis-rest = left_below _ p 1 basis_words first found none
+          basis_rest = left_below _ p 1 basis_words first found none
 
-          pub basis-inverse-over
+          pub basis_inverse_over
               : l < r * r * n → WriteOutcome (header Basis r n p) (y ∷ z ∷ []) text (Refused (Word 2 l)) text
-          basis-inverse-over = left_over [] p 2 basis-rest second next
+          basis_inverse_over = left_over [] p 2 basis_rest second next
 
           module _ (neither : r * r * n ≤ l) where
             pub basis_silent : Left (header Basis r n p) (y ∷ z ∷ []) text []
-            basis_silent = left_below [] p 2 basis-rest second next neither
+            basis_silent = left_below [] p 2 basis_rest second next neither
 
             pub basis_done
                 : {after : List ℕ} {e : ℕ} → Put 0 (result_text (header Basis r n p) (y ∷ z ∷ [])) text after e
                 → WriteOutcome (header Basis r n p) (y ∷ z ∷ []) text (Done e) after
-            basis_done = left-none basis_silent
+            basis_done = left_none basis_silent

@@ -55,20 +55,20 @@ module _ (p n : ℕ) (z : ℕ → ℤ) (within : (k : ℕ) → InForm p n (z k))
   rows_ranged head i zero from = tt
   rows_ranged head i (suc k) from = ((λ j h. within (from + j)), rows_ranged head (suc i) k (from + n))
 
-  matrix-ranged
+  matrix_ranged
       : (head : List ℕ) (columns i k from : ℕ) → Ranged (matrix_forms (balanced_form p n) head columns i k) z from
   unfolding Ranged matrix_forms
-  matrix-ranged head columns i zero from = tt
-  matrix-ranged head columns i (suc k) from =
+  matrix_ranged head columns i zero from = tt
+  matrix_ranged head columns i (suc k) from =
       let row = row_forms (balanced_form p n) (numbered head i) 1 columns in
       ranged_append _ z row from (rows_ranged (numbered head i) 1 columns from)
-      (matrix-ranged head columns (suc i) k (from + total row))
+      (matrix_ranged head columns (suc i) k (from + total row))
 
   lines_ranged : (kind : Kind) (r from : ℕ) → Ranged (result_lines kind (balanced_form p n) r) z from
   unfolding result_lines
   lines_ranged System r from = rows_ranged (121 ∷ []) 1 r from
   lines_ranged Basis r from =
-      ranged_append _ z _ from (matrix-ranged (89 ∷ []) r 1 r from) (matrix-ranged (90 ∷ []) r 1 r _)
+      ranged_append _ z _ from (matrix_ranged (89 ∷ []) r 1 r from) (matrix_ranged (90 ∷ []) r 1 r _)
   lines_ranged Equation r from = rows_ranged (121 ∷ []) 1 1 from
 
   forms_ranged : (kind : Kind) (r : ℕ) → Ranged (result_forms (header kind r n p)) z 0
@@ -96,12 +96,12 @@ words_Small p b s i (suc count) t (suc k) h =
     rw e (words_Small p b s (suc i) count (says_tail _ _ t) k (omega arith))
 
 -- the text of a sheet with residues as its words
-sheet-put
+sheet_put
     : (kind : Kind) (r n p : ℕ) (lent : List (List ℕ)) {text after : List ℕ} {l : ℕ} → Limits r n p
     → ((k : ℕ) → get_or (flatten lent) k 0 < p)
     → Put 0 (result_text (header kind r n p) lent) text after l
     → Sheet result_forms (take l after) (header kind r n p) (result_numbers p lent)
-sheet-put kind r n p lent {l = l} limits below put =
+sheet_put kind r n p lent {l = l} limits below put =
     let z = result_numbers p lent in
     let within : (k : ℕ) → InForm p n (z k) =
     λ k. balanced_form_lem p n (z k) (balanced_range (get_or (flatten lent) k 0) p (below k)) in
@@ -121,10 +121,10 @@ sheet-put kind r n p lent {l = l} limits below put =
     }
 
 -- all words of a buffer are residues, if its length is the count and the rules of its words are silent
-buffer-below
+buffer_below
     : (p b : ℕ) (s : List ℕ) (count : ℕ) → 0 < p → length s ≡ count → Says (word_rules words p b s 0 count) done
     → (k : ℕ) → get_or s k 0 < p
-buffer-below p b s count positive exact silent =
+buffer_below p b s count positive exact silent =
     let none : FirstOver p s (length s) = record {
       within = omega arith;
       below = λ j h. let e : 0 + j ≡ j = omega arith in rw e at (words_Small p b s 0 count silent j (omega arith));
@@ -140,11 +140,11 @@ append-below p (x ∷ y) z below more zero = below 0
 append-below p (x ∷ y) z below more (suc k) = append-below p y z (λ j. below (suc j)) more k
 
 -- done, so no rule holds
-none-hold
+none_hold
     : {h : Header} {lent : List (List ℕ)} {text after : List ℕ} {w : Written} {l : ℕ} → WriteOutcome h lent text w after
     → w ≡ Done l → Says (write_rules h lent text) done
 unfolding written_verdict
-none-hold {h} {lent} {text} o e =
+none_hold {h} {lent} {text} o e =
     subst (λ (v : Verdict). Says (write_rules h lent text) v) (ap written_verdict e) o.verdict
 
 -- the silent rules of lengths: every buffer of words has its length, and so has the text
@@ -161,18 +161,18 @@ lengths_exact b (c ∷ ls) (s ∷ lent) l text e t =
     (rw (length_is b c s _ t, rest.0), rest.1)
 
 -- the silent rules of words: every word is a residue
-words-below
+words_below
     : (p b : ℕ) (ls : List ℕ) (lent : List (List ℕ)) → 0 < p → map length lent ≡ ls
     → Says (read_rules words p b (length lent) ls lent) done → (k : ℕ) → get_or (flatten lent) k 0 < p
 unfolding read_rules flatten
-words-below p b ls [] positive e t k = positive
-words-below p b [] (s ∷ lent) positive e t k = absurd (let q : ◌≡◌ {A = ℕ} 0 1 = cc in omega arith)
-words-below p b (c ∷ ls) (s ∷ lent) positive e t k =
+words_below p b ls [] positive e t k = positive
+words_below p b [] (s ∷ lent) positive e t k = absurd (let q : ◌≡◌ {A = ℕ} 0 1 = cc in omega arith)
+words_below p b (c ∷ ls) (s ∷ lent) positive e t k =
     let exact : length s ≡ c = cc in
     let others : map length lent ≡ ls = cc in
     let both = says_split (word_rules words p b s 0 c) _ t in
-    append-below p s (flatten lent) (buffer-below p b s c positive exact both.0)
-    (words-below p (suc b) ls lent positive others both.1) k
+    append-below p s (flatten lent) (buffer_below p b s c positive exact both.0)
+    (words_below p (suc b) ls lent positive others both.1) k
 
 -- what is written, of as many buffers as the kind has
 module _ {h : Header} {lent : List (List ℕ)} {text after : List ℕ} {w : Written} {l : ℕ}
@@ -188,7 +188,7 @@ module _ {h : Header} {lent : List (List ℕ)} {text after : List ℕ} {w : Writ
       × Says (read_rules words h.p 1 (length lent) (result_lengths h) lent) done
   unfolding write_rules
   silent =
-      let both = says_split (limited ++ exact) _ (none-hold o d) in
+      let both = says_split (limited ++ exact) _ (none_hold o d) in
       (says_split limited exact both.0, both.1)
 
   pub written_limits : Says limited done
@@ -203,10 +203,10 @@ module _ {h : Header} {lent : List (List ℕ)} {text after : List ℕ} {w : Writ
   pub written_below : (k : ℕ) → get_or (flatten lent) k 0 < h.p
   written_below =
       let bounds = limits h.r h.n h.p written_limits in
-      words-below h.p 1 (result_lengths h) lent (omega (arith, bounds.terms_least, bounds.few)) written_lengths
+      words_below h.p 1 (result_lengths h) lent (omega (arith, bounds.terms_least, bounds.few)) written_lengths
       silent.1
 
   pub written_sheet : Sheet result_forms (take l after) h (result_numbers h.p lent)
   written_sheet =
       let bounds = limits h.r h.n h.p written_limits in
-      sheet-put h.kind h.r h.n h.p lent bounds written_below (o.written l d)
+      sheet_put h.kind h.r h.n h.p lent bounds written_below (o.written l d)

@@ -50,10 +50,10 @@ lead_room System = omega arith
 lead_room Basis = omega arith
 lead_room Equation = omega arith
 
-pub header-room
+pub header_room
     : (kind : Kind) (r n p : ℕ) → r < 2 ^ 64 → n < 2 ^ 64 → p < 2 ^ 64
     → length ((header_form (result_words kind) (header kind r n p)).head ++ (10 ∷ [])) ≤ 79
-header-room kind r n p a b c =
+header_room kind r n p a b c =
     let words = result_words kind in
     omega (
       arith,
@@ -82,10 +82,10 @@ module _ (p : ℕ) (small : p < 2 ^ 64) (s : List ℕ) (below : (k : ℕ) → ge
       omega (arith, both, first, items_room (suc i) n)
 
   module _ (n : ℕ) where
-    line-room
+    line_room_lem
         : (head : List ℕ) (i : ℕ) → i < 2 ^ 64 → (from : ℕ)
         → length (line (balanced_form p n (numbered head i)) (number_at p s) from) ≤ line_room (length head) n
-    line-room head i h from =
+    line_room_lem head i h from =
         let numbers = items (number_at p s) from n in
         omega (
           arith,
@@ -96,32 +96,32 @@ module _ (p : ℕ) (small : p < 2 ^ 64) (s : List ℕ) (below : (k : ℕ) → ge
           items_room from n,
         )
 
-    pub rows-room
+    pub rows_room
         : (head : List ℕ) (i k : ℕ) → i + k ≤ 2 ^ 64 → (from : ℕ)
         → length (lines (row_forms (balanced_form p n) head i k) (number_at p s) from) ≤ k * line_room (length head) n
     unfolding lines row_forms
-    rows-room head i zero h from = omega arith
-    rows-room head i (suc k) h from =
+    rows_room head i zero h from = omega arith
+    rows_room head i (suc k) h from =
         let first = line (balanced_form p n (numbered head i)) (number_at p s) from in
         omega (
           arith,
           length-append first (lines (row_forms (balanced_form p n) head (suc i) k) (number_at p s) (from + n)),
-          line-room head i (omega arith) from,
-          rows-room head (suc i) k (omega arith) (from + n),
+          line_room_lem head i (omega arith) from,
+          rows_room head (suc i) k (omega arith) (from + n),
           suc-mul k (line_room (length head) n),
         )
 
-    pub matrix-room
+    pub matrix_room
         : (word columns i k : ℕ) → columns ≤ 8 → i + k < 10 → (from : ℕ)
         → length (lines (matrix_forms (balanced_form p n) (word ∷ []) columns i k) (number_at p s) from)
         ≤ k * (columns * line_room 3 n)
     unfolding lines matrix_forms
-    matrix-room word columns i zero few h from = omega arith
-    matrix-room word columns i (suc k) few h from =
+    matrix_room word columns i zero few h from = omega arith
+    matrix_room word columns i (suc k) few h from =
         let head = numbered (word ∷ []) i in
         let row = row_forms (balanced_form p n) head 1 columns in
         let rest = matrix_forms (balanced_form p n) (word ∷ []) columns (suc i) k in
-        let first = rows-room head 1 columns (omega arith) from in
+        let first = rows_room head 1 columns (omega arith) from in
         let three = ap (λ (l : ℕ). columns * line_room l n) (head_room word i (omega arith)) in
         let next = from + total row in
         omega (
@@ -130,6 +130,6 @@ module _ (p : ℕ) (small : p < 2 ^ 64) (s : List ℕ) (below : (k : ℕ) → ge
           length-append (lines row (number_at p s) from) (lines rest (number_at p s) next),
           first,
           three,
-          matrix-room word columns (suc i) k few (omega arith) next,
+          matrix_room word columns (suc i) k few (omega arith) next,
           suc-mul k (columns * line_room 3 n),
         )

@@ -35,11 +35,11 @@ unfolding lines items
 header-lines lead h fs z = let e : 0 + 0 ≡ 0 = omega arith in rw e
 
 -- one list of forms behind another, each with the numbers of a buffer of its own
-two-buffers
+two_buffers
     : (p : ℕ) (y z : List ℕ) (fs gs : List Form) → total fs ≡ length y
     → lines fs (number_at p y) 0 ++ lines gs (number_at p z) 0 ≡ lines (fs ++ gs) (result_numbers p (y ∷ z ∷ [])) 0
 unfolding flatten
-two-buffers p y z fs gs e =
+two_buffers p y z fs gs e =
     let all = number_at p (y ++ (z ++ [])) in
     let first : Same (number_at p y) 0 all 0 (total fs) = record {
       at = λ j h. ap (λ (c : ℕ). balanced c p) (sym (get_or-append y (z ++ []) 0 (0 + j) (omega arith)));
@@ -52,29 +52,29 @@ two-buffers p y z fs gs e =
     rw (lines-shift fs first, lines-shift gs second) (sym (lines-append gs all fs 0))
 
 -- the lines of y
-vector-lines
+vector_lines
     : (kind : Kind) (series : List ℕ → Form) (r rows : ℕ) → Rows kind r rows
     → result_lines kind series r ≡ row_forms series (121 ∷ []) 1 rows
 unfolding result_lines
-vector-lines System series r rows e = rw e
-vector-lines Basis series r rows e = absurd e
-vector-lines Equation series r rows e = rw e
+vector_lines System series r rows e = rw e
+vector_lines Basis series r rows e = absurd e
+vector_lines Equation series r rows e = rw e
 
 -- the sheet of y
-pub vector-sheet
+pub vector_sheet
     : (kind : Kind) (r rows n p : ℕ) (y : List ℕ) → Rows kind r rows
     → let rest = row_forms (balanced_form p n) (121 ∷ []) 1 rows in
     ((header_form (result_words kind) (header kind r n p)).head ++ (10 ∷ [])) ++ lines rest (number_at p y) 0
     ≡ result_text (header kind r n p) (y ∷ [])
 unfolding result_forms flatten
-vector-sheet kind r rows n p y e =
+vector_sheet kind r rows n p y e =
     let rest = row_forms (balanced_form p n) (121 ∷ []) 1 rows in
     let numbers : result_numbers p (y ∷ []) ≡ number_at p y = ap (λ (s : List ℕ). number_at p s) (append-nil y) in
-    rw (numbers, vector-lines kind (balanced_form p n) r rows e)
+    rw (numbers, vector_lines kind (balanced_form p n) r rows e)
     (header-lines (result_words kind) (header kind r n p) rest (number_at p y))
 
 -- the sheet of Y and Z
-pub basis-sheet
+pub basis_sheet
     : (r n p : ℕ) (y z : List ℕ) → length y ≡ r * (r * n)
     → let first = matrix_forms (balanced_form p n) (89 ∷ []) r 1 r in
     let second = matrix_forms (balanced_form p n) (90 ∷ []) r 1 r in
@@ -82,9 +82,9 @@ pub basis-sheet
     ++ (lines first (number_at p y) 0 ++ lines second (number_at p z) 0)
     ≡ result_text (header Basis r n p) (y ∷ z ∷ [])
 unfolding result_forms result_lines
-basis-sheet r n p y z e =
+basis_sheet r n p y z e =
     let first = matrix_forms (balanced_form p n) (89 ∷ []) r 1 r in
     let second = matrix_forms (balanced_form p n) (90 ∷ []) r 1 r in
     let exact = total-matrix n _ _ (89 ∷ []) r 1 r ∙ sym e in
-    rw (two-buffers p y z first second exact)
+    rw (two_buffers p y z first second exact)
     (header-lines (result_words Basis) (header Basis r n p) (first ++ second) (result_numbers p (y ∷ z ∷ [])))

@@ -43,11 +43,11 @@ module _ (r n p : ℕ) (passed : Says (limit_rules r n p ++ size_rules bytes r n
       let more = mul-le-mul_right n limits.order_least in
       rw e (omega arith, omega (arith, small, factor_within r n, mul_assoc r r n, more))
 
-  pub vector-ready
+  pub vector_ready
       : (kind : Kind) (rows : ℕ) {y text : List ℕ} {k : ℕ} → Rows kind r rows
       → length y ≡ rows * n → length text ≡ 65536 → FirstOver p y k → length y ≤ k
       → VectorReady kind r rows n p y text
-  vector-ready kind rows {y} {text} order exact whole found all = record {
+  vector_ready kind rows {y} {text} order exact whole found all = record {
     order = order;
     modulus = omega (arith, limits.half);
     ready = record {
@@ -57,10 +57,10 @@ module _ (r n p : ℕ) (passed : Says (limit_rules r n p ++ size_rules bytes r n
     };
   }
 
-  pub basis-ready
+  pub basis_ready
       : {y z text : List ℕ} {k l : ℕ} → length y ≡ r * r * n → length z ≡ r * r * n → length text ≡ 65536
       → FirstOver p y k → length y ≤ k → FirstOver p z l → length z ≤ l → BasisReady r n p y z text
-  basis-ready y-exact z-exact whole y-found y-all z-found z-all =
+  basis_ready y-exact z-exact whole y-found y-all z-found z-all =
       let positive : 0 < p = omega (arith, limits.terms_least, limits.few) in
       let entries = square in
       let few = small in

@@ -11,14 +11,14 @@ use Rattle.text.specs.Decimal.{digits, spell}
 use Rattle.text.specs.Lines.{items, line, lines}
 use Rattle.text.specs.Put.{Put}
 use Rattle.text.proofs.Lines.{items_snoc}
-use Rattle.text.proofs.Puts.{put_none, put_one, put-more, put_as}
+use Rattle.text.proofs.Puts.{put_none, put_one, put_more, put_as}
 use Rattle.lines.proofs.Forms.{word_digit}
 use Rattle.lines.specs.Forms.{numbered, row_forms, matrix_forms}
 use Rattle.result.specs.ResultSheet.{balanced_form}
 use Rattle.result.specs.Print.{number_at, Ready, line_room}
 use Rattle.result.proofs.Products.{stride}
-use Rattle.result.proofs.Forms.{rows_more, matrix-more}
-use Rattle.result.proofs.Room.{digits_room, items_room, rows-room, matrix-room}
+use Rattle.result.proofs.Forms.{rows_more, matrix_more}
+use Rattle.result.proofs.Room.{digits_room, items_room, rows_room, matrix_room}
 
 -- the first i bytes of h
 pub record BytesPut (h : List ℕ) (at : ℕ) (d₀ d : List ℕ) (i : ℕ) : Type 0 where
@@ -39,7 +39,7 @@ module _ {h : List ℕ} {at : ℕ} {d₀ d : List ℕ} {i : ℕ} (so_far : Bytes
   bytes_next room more =
       let e : at + suc i ≡ at + i + 1 = omega arith in
       let one = put_one (at + i) (get_or h i 0) d (bytes_room room more) in
-      record { within = omega arith; put = rw (add-one i, take-suc h i 0 more, e) (put-more so_far.put one) }
+      record { within = omega arith; put = rw (add-one i, take-suc h i 0 more, e) (put_more so_far.put one) }
 
   pub bytes_all : length h ≤ i → Put at h d₀ d (at + i)
   bytes_all all =
@@ -65,38 +65,38 @@ module _ {p : ℕ} {s : List ℕ} {from count : ℕ} {d₀ : List ℕ} {at : ℕ
         let short = items_room p small s ready.below from k in
         omega (arith, so_far.within, put.end, put.long, short, ready.room)
 
-    pub numbers-next
+    pub numbers_next
         : {d' : List ℕ} {e' : ℕ} → k < count → Put e (9 ∷ spell (number_at p s (from + k))) d d' e'
         → NumbersPut p s from count at d₀ d' e' (k + 1)
-    numbers-next more one = record {
+    numbers_next more one = record {
       within = omega arith;
-      put = rw (add-one k, items_snoc (number_at p s) from k) (put-more so_far.put one);
+      put = rw (add-one k, items_snoc (number_at p s) from k) (put_more so_far.put one);
     }
 
-    pub numbers-all
+    pub numbers_all
         : {d' : List ℕ} {e' : ℕ} → count ≤ k → Put e (10 ∷ []) d d' e'
         → Put at (items (number_at p s) from count ++ (10 ∷ [])) d₀ d' e'
-    numbers-all all feed =
+    numbers_all all feed =
         let e : count ≡ k = omega (arith, so_far.within) in
-        rw e (put-more so_far.put feed)
+        rw e (put_more so_far.put feed)
 
 -- where a text ends that is not too long
 pub put_within : {at : ℕ} {t d d' : List ℕ} {e n : ℕ} → Put at t d d' e → length t ≤ n → e ≤ at + n
 put_within put short = omega (arith, put.end)
 
 -- the same words, to be printed at an earlier place
-pub ready-earlier
+pub ready_earlier
     : {p : ℕ} {s : List ℕ} {from count : ℕ} {d : List ℕ} {at bytes : ℕ} → Ready p s from count d at bytes
     → {a : ℕ} {d' : List ℕ} → a ≤ at → length d' ≡ length d → Ready p s from count d' a bytes
-ready-earlier ready less same =
+ready_earlier ready less same =
     record { below = ready.below; words = ready.words; room = omega (arith, ready.room) }
 
 -- the numbers of a line, behind its head and its row number
-pub row-ready
+pub row_ready
     : {p : ℕ} {s : List ℕ} {from count : ℕ} {h d₀ d d' : List ℕ} {at a b i : ℕ}
     → Ready p s from count d₀ at (line_room (length h) count) → i < 2 ^ 64
     → Put at h d₀ d a → Put a (9 ∷ digits i) d d' b → Ready p s from count d' b (22 * count + 1)
-row-ready {i = i} ready small head field = record {
+row_ready {i = i} ready small head field = record {
   below = ready.below;
   words = ready.words;
   room =
@@ -122,11 +122,11 @@ module _ {p : ℕ} {s : List ℕ} {from rows count : ℕ} {h d₀ : List ℕ} {a
         rw e so_far.put
 
     -- the next row
-    pub rows-ready
+    pub rows_ready
         : i < rows → p < 2 ^ 64 → rows < 2 ^ 64 → Ready p s (from + i * count) count d e (line_room (length h) count)
-    rows-ready more small few =
+    rows_ready more small few =
         let put = so_far.put in
-        let short = rows-room p small s ready.below count h 1 i (omega arith) from in
+        let short = rows_room p small s ready.below count h 1 i (omega arith) from in
         record {
           below = ready.below;
           words = omega (arith, stride count more, ready.words);
@@ -139,7 +139,7 @@ module _ {p : ℕ} {s : List ℕ} {from rows count : ℕ} {h d₀ : List ℕ} {a
         → RowsPut p s from count rows h at d₀ d' e' (i + 1)
     rows_next more one =
         let e : i + 1 ≡ 1 + i = omega arith in
-        let next = put-more so_far.put (rw e at one) in
+        let next = put_more so_far.put (rw e at one) in
         record { within = omega arith; put = rw add-one (put_as (rows_more count _ _ (number_at p s) from h 1 i) next) }
 
 -- the lines of the first i rows of a matrix
@@ -155,28 +155,28 @@ module _ {p : ℕ} {s : List ℕ} {order count : ℕ} {d₀ : List ℕ} {at : �
 
   module _ {word : ℕ} {d : List ℕ} {e i : ℕ} (so_far : MatrixPut p s count order word at d₀ d e i) where
     -- the next row
-    pub matrix-ready
+    pub matrix_ready
         : i < order → p < 2 ^ 64 → Ready p s (i * (order * count)) (order * count) d e (order * line_room 3 count)
-    matrix-ready more below =
+    matrix_ready more below =
         let put = so_far.put in
-        let short = matrix-room p below s ready.below count word order 1 i small (omega arith) 0 in
+        let short = matrix_room p below s ready.below count word order 1 i small (omega arith) 0 in
         record {
           below = ready.below;
           words = omega (arith, stride (order * count) more, ready.words);
           room = omega (arith, stride (order * line_room 3 count) more, put.end, put.long, short, ready.room);
         }
 
-    pub matrix-next
+    pub matrix_next
         : {d' : List ℕ} {e' : ℕ} → i < order
         → let row = row_forms (balanced_form p count) (word ∷ 9 ∷ (49 + i) ∷ []) 1 order in
         Put e (lines row (number_at p s) (i * (order * count))) d d' e'
         → MatrixPut p s count order word at d₀ d' e' (i + 1)
-    matrix-next more rows =
+    matrix_next more rows =
         let e : i * (order * count) ≡ 0 + i * (order * count) = omega arith in
-        let next = put-more so_far.put (rw (word_digit word i (omega arith), e) at rows) in
+        let next = put_more so_far.put (rw (word_digit word i (omega arith), e) at rows) in
         record {
           within = omega arith;
-          put = rw add-one (put_as (matrix-more count _ _ (number_at p s) 0 (word ∷ []) order 1 i) next);
+          put = rw add-one (put_as (matrix_more count _ _ (number_at p s) 0 (word ∷ []) order 1 i) next);
         }
 
     pub matrix_all

@@ -28,7 +28,7 @@ use Rattle.job.proofs.Says.{
 use Rattle.refusal.specs.Checked.{Judged}
 use Rattle.refusal.proofs.Judged.{judged_done}
 use Rattle.text.specs.Lines.{Form, Begins}
-use Rattle.text.proofs.Lines.{begins-as}
+use Rattle.text.proofs.Lines.{begins_as}
 use Rattle.cursor.specs.declared.Cursor.{Cursor}
 use Rattle.header.specs.declared.Header.{Header}
 use Rattle.header.specs.declared.Opening.{Opening}
@@ -101,14 +101,14 @@ module _ {forms : Header → List Form} {lead : Kind → List ℕ} (led : Led fo
   -- line 1 of a sheet, and a header there
   keeps_header : {h : Header} (k : Keeps forms s h 1)
       → Begins s (header_form (lead h.kind) h ∷ []) k.numbers 0 k.rest
-  keeps_header {h} k = begins-as (led.first h) k.begins
+  keeps_header {h} k = begins_as (led.first h) k.begins
 
   pub opens_keeps : {h : Header} {c : Cursor} → Opens (lead h.kind) s h c → Keeps forms s h 1
   opens_keeps {h} o = record {
     short = o.short;
     numbers = λ k. pos 0;
     rest = _;
-    begins = begins-as (sym (led.first h)) (o.begins (λ k. pos 0));
+    begins = begins_as (sym (led.first h)) (o.begins (λ k. pos 0));
   }
 
   -- a header of the last kind, or none of any
@@ -156,10 +156,10 @@ module _ {system basis equation s : List ℕ} where
       record { opened = λ forms lead led x y z. opened_last led s (rw x a) (rw y b) r (rw z o) }
 
 -- what line 1 and its limits say, of one sort
-pub kinds-started
+pub kinds_started
     : {forms : Header → List Form} {lead : Kind → List ℕ} {s : List ℕ} {o : Opening} {x : Start} → Led forms lead
     → OpenedKinds (lead System) (lead Basis) (lead Equation) s o → Starting s o x → Started forms lead s x
-kinds-started led opened begun = begun.started _ _ led (opened.opened _ _ led refl refl refl)
+kinds_started led opened begun = begun.started _ _ led (opened.opened _ _ led refl refl refl)
 
 -- too many bytes
 pub start_large : {forms : Header → List Form} (lead : Kind → List ℕ) {s : List ℕ} → 65536 < length s

@@ -10,7 +10,7 @@ use lib.Seq.{get_or-append-add}
 use Rattle.job.specs.declared.Kind.{Kind}
 use Rattle.job.specs.declared.Kind.TheVariants.{System, Basis, Equation}
 use Rattle.text.specs.Lines.{Form, lines, Begins}
-use Rattle.text.proofs.Lines.{begins-as}
+use Rattle.text.proofs.Lines.{begins_as}
 use Rattle.header.specs.declared.Header.{Header}
 use Rattle.header.specs.Header.{header, word_of, header_form}
 use Rattle.header.proofs.Headers.{lead_same}
@@ -56,8 +56,8 @@ module _ (before : List ℕ) where
     -- line 1 decides the header
     pub one-header : (s : List ℕ) (g h : Header) → Keeps forms s g 1 → Keeps forms s h 1 → g ≡ h
     one-header s g h a b =
-        let first = begins-as (led.first g) a.begins in
-        let second = begins-as (led.first h) b.begins in
+        let first = begins_as (led.first g) a.begins in
+        let second = begins_as (led.first h) b.begins in
         let kind : g.kind ≡ h.kind =
         initial_same g.kind h.kind (sym (word_of_lem g.kind g first) ∙ word_of_lem h.kind h second) in
         let as-second =

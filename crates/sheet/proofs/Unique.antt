@@ -32,7 +32,7 @@ use Rattle.job.proofs.Unique.{answer_same}
 use Rattle.text.specs.Class.{residue}
 use Rattle.text.specs.Lines.{Form, total}
 use Rattle.text.proofs.Digits.{below_or}
-use Rattle.text.proofs.Lines.{Agree, agree_before, agree_behind, begins-split, begins-same, begins-as}
+use Rattle.text.proofs.Lines.{Agree, agree_before, agree_behind, begins_split, begins_same, begins_as}
 use Rattle.header.specs.declared.Header.{Header}
 use Rattle.sheet.specs.declared.Reading.{Reading}
 use Rattle.sheet.specs.declared.Reading.TheVariants.{Done, Refused, Broken}
@@ -114,8 +114,8 @@ module _ (forms : Header → List Form)
   -- a sheet keeps its first line
   pub sheet_keeps : {s : List ℕ} {h : Header} {z : ℕ → ℤ} → Sheet forms s h z → Keeps forms s h 1
   sheet_keeps {s} {h} {z} a =
-      let all = begins-as (sym (take-append-drop 1 (forms h))) a.whole in
-      let first = begins-split (take 1 (forms h)) (drop 1 (forms h)) all in
+      let all = begins_as (sym (take-append-drop 1 (forms h))) a.whole in
+      let first = begins_split (take 1 (forms h)) (drop 1 (forms h)) all in
       record { short = a.short; numbers = z; rest = _; begins = first }
 
   -- a text is the sheet of one header and one row of numbers
@@ -123,7 +123,7 @@ module _ (forms : Header → List Form)
       → (g ≡ h) × Agree y z 0 (total (forms g))
   sheet_unique {s} {g} {h} {y} {z} a b =
       let same = decides s g h (sheet_keeps a) (sheet_keeps b) in
-      (same, (begins-same a.whole (rw (sym same) at b.whole)).0)
+      (same, (begins_same a.whole (rw (sym same) at b.whole)).0)
 
   module _ (lengths : Header → List ℕ) (exact : (h : Header) → total (forms h) ≡ sum_of (lengths h)) (s : List ℕ)
       (rooms : List (List ℕ)) where

@@ -11,7 +11,7 @@ use lib.Seq.{take-take, take-length}
 use Rattle.job.specs.Refusal.{done, refused, Says}
 use Rattle.job.proofs.Says.{says_none, says_here, says_past}
 use Rattle.text.specs.Lines.{Form, total, Begins}
-use Rattle.text.proofs.Lines.{begins-append, begins-split, begins-rest, begins-same, begins-as}
+use Rattle.text.proofs.Lines.{begins_append, begins_split, begins_rest, begins_same, begins_as}
 use Rattle.cursor.specs.declared.Cursor.{Cursor}
 use Rattle.lines.specs.declared.Step.{Step}
 use Rattle.lines.specs.declared.Step.TheVariants as step
@@ -27,7 +27,7 @@ use Rattle.header.specs.Opened.{Opens}
 -- a text that begins with some lines begins with the first of them
 begins_first : {s t : List ℕ} {z : ℕ → ℤ} {i : ℕ} (k : ℕ) (fs : List Form) → Begins s fs z i t
     → (u : List ℕ) × Begins s (take k fs) z i u
-begins_first k fs b = (_, begins-split (take k fs) (drop k fs) (begins-as (sym (take-append-drop k fs)) b))
+begins_first k fs b = (_, begins_split (take k fs) (drop k fs) (begins_as (sym (take-append-drop k fs)) b))
 
 module _ (forms : Header → List Form) (s : List ℕ) (h : Header) where
   -- the rules from line k on, of which m are silent
@@ -80,18 +80,18 @@ module _ (forms : Header → List Form) {lead s : List ℕ} {h : Header} {c : Cu
   joined : {gs : List Form} {z : ℕ → ℤ} {t : List ℕ} → Begins (drop c.byte s) gs z 0 t
       → Begins s (header_form lead h ∷ gs) z 0 t
   unfolding total
-  joined {z = z} b = begins-append (o.begins z) b
+  joined {z = z} b = begins_append (o.begins z) b
 
   behind : (gs : List Form) {z : ℕ → ℤ} {t : List ℕ} → Begins s (header_form lead h ∷ gs) z 0 t
       → Begins (drop c.byte s) gs z 0 t
   unfolding total
-  behind gs {z} b = begins-rest gs (o.begins z) b
+  behind gs {z} b = begins_rest gs (o.begins z) b
 
   keeps : (k m : ℕ) → k ≤ m → (z : ℕ → ℤ) (t : List ℕ) → Begins (drop c.byte s) (take m fs) z 0 t
       → Keeps forms s h (suc k)
   keeps k m l z t b =
       let some = begins_first k (take m fs) b in
-      let begins = joined (begins-as (take-take k m fs l) some.1) in
+      let begins = joined (begins_as (take-take k m fs l) some.1) in
       record { short = o.short; numbers = z; rest = some.0; begins = rw e begins }
 
   broken-says : {old new : List ℤ} {number : ℕ} → Breaks s c fs 0 old new number
@@ -114,13 +114,13 @@ module _ (forms : Header → List Form) {lead s : List ℕ} {h : Header} {c : Cu
     extra_says l =
         let count : length (forms h) - 1 ≡ length fs = rw e (omega arith) in
         let place : 2 + length fs ≡ d.line + 1 = omega (arith, p.line, o.line) in
-        let all = begins-as (sym (take-length fs)) p.begins in
+        let all = begins_as (sym (take-length fs)) p.begins in
         rw (count, sym place)
         (lines_extra forms s h 2 (length fs)
         (λ j q. let f : suc (suc j) ≡ 2 + j = omega arith in
         subst (λ (i : ℕ). Keeps forms s h i) f (keeps (suc j) (length fs) q (nth new) (drop d.byte s) all))
         (λ z a.
-        let rest = (begins-same p.begins (behind fs (rw e at a.whole))).1 in
+        let rest = (begins_same p.begins (behind fs (rw e at a.whole))).1 in
         omega (arith, ap length rest, length-drop d.byte s)))
 
     whole_sheet : length s ≤ d.byte → Sheet forms s h (nth new)

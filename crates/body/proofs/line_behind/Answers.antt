@@ -1,6 +1,6 @@
 -- `body::line_behind` meets its contract: no line is read behind a broken one.
 -- Assumes nothing.
-use Rattle.body.proofs.Behind.{behind_broken, behind-passed}
+use Rattle.body.proofs.Behind.{behind_broken, behind_passed}
 use Rattle.body.proofs.line_behind.Goals as goal
 
 pub returns-in_default : goal.returns-in_default
@@ -12,4 +12,4 @@ read_line-requires c =
     reached.0
 
 pub returns : goal.returns
-returns c = behind-passed c.in-Next.is c.read_line.ensures
+returns c = behind_passed c.in-Next.is c.read_line.ensures

@@ -1,7 +1,7 @@
 -- `body::rows_behind` meets its contract: no line is read behind a broken one.
 -- Assumes nothing.
 use native.Mathlib.Omega.{arith}
-use Rattle.body.proofs.Behind.{behind_broken, behind-passed}
+use Rattle.body.proofs.Behind.{behind_broken, behind_passed}
 use Rattle.body.proofs.rows_behind.Goals as goal
 
 pub returns-in_default : goal.returns-in_default
@@ -14,4 +14,4 @@ read_rows-requires c =
     (reached.0, reached.1, omega (arith, given.1))
 
 pub returns : goal.returns
-returns c = behind-passed c.in-Next.is c.read_rows.ensures
+returns c = behind_passed c.in-Next.is c.read_rows.ensures

@@ -1,7 +1,7 @@
 -- `lines::pass_head` meets its contract. The loop's invariant is `Heading`; the measure is what is left of h.
 -- Assumes nothing.
 use native.Mathlib.Omega.{arith}
-use Rattle.lines.proofs.Heads.{heading_start, heading-done, heading_none, heading-other, heading_tab, heading-plain}
+use Rattle.lines.proofs.Heads.{heading_start, heading_done, heading_none, heading_other, heading_tab, heading_plain}
 use Rattle.lines.proofs.pass_head.Goals as goal
 use Rattle.lines.proofs.pass_head.Goals.{then-h-i-eq9, else-h-i-eq9}
 
@@ -16,7 +16,7 @@ returns-then-k-s c = heading_none c.loop-i.invariant c.loop-i-test.true c.if-k-s
 
 pub returns-then-s-k : goal.returns-then-s-k
 returns-then-s-k c =
-    heading-other c.loop-i.invariant c.loop-i-test.true c.if-k-s.false c.if-s-k.true
+    heading_other c.loop-i.invariant c.loop-i-test.true c.if-k-s.false c.if-s-k.true
 
 pub overflow_add-field : goal.overflow_add-field
 overflow_add-field c =
@@ -29,11 +29,11 @@ loop-i-preserved c =
     let h = c.loop-i-test.true in
     elim c.if-h-i-eq9.branch [
       | then-h-i-eq9 w ↦ rw w.field-is (heading_tab l.invariant h c.if-k-s.false b w.if-h-i-eq9.true)
-      | else-h-i-eq9 w ↦ rw w.field-is (heading-plain l.invariant h c.if-k-s.false b w.if-h-i-eq9.false)
+      | else-h-i-eq9 w ↦ rw w.field-is (heading_plain l.invariant h c.if-k-s.false b w.if-h-i-eq9.false)
     ]
 
 pub overflow_add-result : goal.overflow_add-result
 overflow_add-result c = omega (arith, c.loop-i.invariant.inside)
 
 pub returns : goal.returns
-returns c = heading-done c.loop-i.invariant c.requires c.loop-i-test.false
+returns c = heading_done c.loop-i.invariant c.requires c.loop-i-test.false

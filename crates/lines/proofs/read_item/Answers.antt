@@ -7,8 +7,8 @@ use lib.ListN.{length}
 use Rattle.text.specs.Field.{Numbered}
 use Rattle.text.specs.declared.Signed.{Signed}
 use Rattle.text.proofs.Machine.{passes}
-use Rattle.lines.proofs.Bytes.{byte_none, byte-first}
-use Rattle.lines.proofs.Items.{field, item_unended, item-is, item_not}
+use Rattle.lines.proofs.Bytes.{byte_none, byte_first}
+use Rattle.lines.proofs.Items.{field, item_unended, item_is, item_not}
 use Rattle.lines.proofs.read_item.Goals as goal
 use Rattle.lines.proofs.read_item.Goals.{After-read_number}
 
@@ -20,7 +20,7 @@ returns-then-at-s c =
 pub returns-then-s-at-ne9 : goal.returns-then-s-at-ne9
 returns-then-s-at-ne9 c =
     let a = c.args in
-    λ z t w u q. c.if-s-at-ne9.true (byte-first a.s.now a.c.byte 9 _ c.if-at-s.false q).0
+    λ z t w u q. c.if-s-at-ne9.true (byte_first a.s.now a.c.byte 9 _ c.if-at-s.false q).0
 
 pub returns-then-e-s : goal.returns-then-e-s
 returns-then-e-s c =
@@ -55,7 +55,7 @@ returns-in-Of c =
     let x = c.in-Of.x in
     let z = said (goal.at.returns-in-Of c).After-read_number _ c.in-Of.is in
     rw (passes a.low a.high x c.requires.1 c.requires.2 z.1, c.behind_field.ensures)
-    (item-is a.s.now a.c c.end_field-e.result c.if-at-s.false c.if-s-at-ne9.false
+    (item_is a.s.now a.c c.end_field-e.result c.if-at-s.false c.if-s-at-ne9.false
     c.end_field-e.ensures (ended (goal.at.returns-in-Of c).After-read_number) a.low a.high c.requires.0 x z)
 
 pub returns-in-Not : goal.returns-in-Not

@@ -2,7 +2,7 @@
 -- Assumes nothing.
 use mathlib.Core.Path.{sym}
 use mathlib.Core.List.{[], append-nil}
-use Rattle.lines.proofs.Passes.{headed_read, headless-broken}
+use Rattle.lines.proofs.Passes.{headed_read, headless_broken}
 use Rattle.lines.proofs.read_line.Goals as goal
 
 pub read_numbers-requires : goal.read_numbers-requires
@@ -23,5 +23,5 @@ pub returns-in-Not : goal.returns-in-Not
 returns-in-Not c =
     let a = c.args in
     let h = a.h.now in
-    headless-broken a.s.now a.c a.n h [] h (sym (append-nil h)) a.from a.w.now
+    headless_broken a.s.now a.c a.n h [] h (sym (append-nil h)) a.from a.w.now
     (rw c.in-Not.is at c.pass_head.ensures)

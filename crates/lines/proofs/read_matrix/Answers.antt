@@ -11,7 +11,7 @@ use Rattle.lines.specs.Steps.{form_of, Read}
 use Rattle.lines.specs.declared.Step.{Step}
 use Rattle.lines.proofs.Forms.{word_digit}
 use Rattle.lines.proofs.Passes.{Passed-none}
-use Rattle.lines.proofs.Blocks.{block_within, matrix-next, matrix-broken}
+use Rattle.lines.proofs.Blocks.{block_within, matrix_next, matrix-broken}
 use Rattle.lines.proofs.read_matrix.Goals as goal
 use Rattle.lines.proofs.read_matrix.Goals.{After-read_rows, In-loop-k}
 
@@ -72,7 +72,7 @@ found c r e =
     let l = c.loop-k in
     let head = word_digit a.word l.k (omega (arith, c.loop-k-test.true, c.requires.3)) in
     let new = c.read_rows.new.w in
-    matrix-next a.n (a.word ∷ []) a.columns l.k l.invariant.1 _ head new r (rw e at c.read_rows.ensures)
+    matrix_next a.n (a.word ∷ []) a.columns l.k l.invariant.1 _ head new r (rw e at c.read_rows.ensures)
 
 pub returns-in-Broken : goal.returns-in-Broken
 returns-in-Broken c =

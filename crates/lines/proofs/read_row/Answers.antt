@@ -6,7 +6,7 @@ use Prim.Native.Nat.{ℕ, ◌+◌}
 use Rattle.text.specs.Decimal.{digits}
 use Rattle.text.proofs.Digits.{digits-small}
 use Rattle.lines.specs.Forms.{numbered}
-use Rattle.lines.proofs.Passes.{headed_read, headless-broken}
+use Rattle.lines.proofs.Passes.{headed_read, headless_broken}
 use Rattle.lines.proofs.read_row.Goals as goal
 
 pub read_line-requires : goal.read_line-requires
@@ -27,5 +27,5 @@ pub returns-in-Not : goal.returns-in-Not
 returns-in-Not c =
     let a = c.args in
     let h = a.h.now in
-    headless-broken a.s.now a.c a.n h (9 ∷ digits a.i) (numbered h a.i) refl a.from a.w.now
+    headless_broken a.s.now a.c a.n h (9 ∷ digits a.i) (numbered h a.i) refl a.from a.w.now
     (rw c.in-Not.is at c.pass_head.ensures)

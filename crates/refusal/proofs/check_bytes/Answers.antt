@@ -5,7 +5,7 @@ use mathlib.Core.Path.{refl}
 use native.Mathlib.Omega.{arith}
 use Rattle.job.specs.Job.{Job, buffers, bytes}
 use Rattle.refusal.specs.Checked.{job_of, ReadsLeft}
-use Rattle.refusal.proofs.Call.{call_refused, call_reads, call-checked}
+use Rattle.refusal.proofs.Call.{call_refused, call_reads, call_checked}
 use Rattle.refusal.proofs.check_bytes.Goals as goal
 use Rattle.refusal.proofs.check_bytes.Goals.{After-check_shape-left, In-Reads}
 
@@ -44,5 +44,5 @@ returns-in-Refused c =
 
 pub returns-in-Reads : goal.returns-in-Reads
 returns-in-Reads c =
-    call-checked (reads (goal.at.returns-in-Reads c).In-Reads) c.first_refusal.ensures c.check_buffer_bytes.ensures
+    call_checked (reads (goal.at.returns-in-Reads c).In-Reads) c.first_refusal.ensures c.check_buffer_bytes.ensures
     c.check_buffer_bytes-in-Reads.ensures c.check_buffer_bytes-in-Reads-2.ensures

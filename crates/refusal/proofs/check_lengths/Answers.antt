@@ -3,7 +3,7 @@
 -- Assumes nothing.
 use native.Mathlib.Nat.{mul-le-mul}
 use native.Mathlib.Omega.{arith}
-use Rattle.refusal.proofs.Exact.{lengths_start, lengths-next, lengths-wrong, lengths_all}
+use Rattle.refusal.proofs.Exact.{lengths_start, lengths_next, lengths_wrong, lengths_all}
 use Rattle.refusal.proofs.check_lengths.Goals as goal
 
 pub loop-i-init : goal.loop-i-init
@@ -34,7 +34,7 @@ overflow_add-result c = omega arith
 
 pub returns-then-are-i : goal.returns-then-are-i
 returns-then-are-i c =
-    lengths-wrong c.loop-i.invariant.1 (omega arith) (omega arith) c.if-are-i.true
+    lengths_wrong c.loop-i.invariant.1 (omega arith) (omega arith) c.if-are-i.true
 
 pub overflow_add-i : goal.overflow_add-i
 overflow_add-i c = omega arith
@@ -44,7 +44,7 @@ loop-i-smaller c = omega arith
 
 pub loop-i-preserved : goal.loop-i-preserved
 loop-i-preserved c =
-    (omega arith, lengths-next c.loop-i.invariant.1 (omega arith) (omega arith) c.if-are-i.false)
+    (omega arith, lengths_next c.loop-i.invariant.1 (omega arith) (omega arith) c.if-are-i.false)
 
 pub returns : goal.returns
 returns c = lengths_all c.loop-i.invariant.1 (omega arith)

@@ -1,6 +1,6 @@
 -- `refusal::check_shape` meets its contract: 1 to 4 and 10, then 5, as long as the answer is Done.
 -- Assumes nothing.
-use Rattle.refusal.proofs.Call.{limits_stop, limits_known, lengths_stop, lengths-done}
+use Rattle.refusal.proofs.Call.{limits_stop, limits_known, lengths_stop, lengths_done}
 use Rattle.refusal.proofs.check_shape.Goals as goal
 
 pub returns-in_default : goal.returns-in_default
@@ -24,5 +24,5 @@ returns-in_default-exact c =
 pub returns : goal.returns
 returns c =
     let compared = rw c.cells_of.ensures.0 at c.check_lengths-exact.ensures in
-    lengths-done c.check_size-limits.ensures c.in-Done.is
+    lengths_done c.check_size-limits.ensures c.in-Done.is
     c.lengths_of-l.ensures compared c.in-Done-exact.is c.third_read.ensures

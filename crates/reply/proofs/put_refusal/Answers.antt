@@ -2,7 +2,7 @@
 -- Assumes nothing.
 use mathlib.Core.List.{append_assoc}
 use native.Mathlib.Omega.{arith}
-use Rattle.text.proofs.Puts.{put-more, put_as}
+use Rattle.text.proofs.Puts.{put_more, put_as}
 use Rattle.reply.specs.Reply.{refusal_line}
 use Rattle.reply.proofs.put_refusal.Goals as goal
 
@@ -14,4 +14,4 @@ put_three-requires c =
 pub returns : goal.returns
 unfolding refusal_line
 returns c =
-    put_as (simp append_assoc) (put-more c.put_bytes-a.ensures c.put_three.ensures)
+    put_as (simp append_assoc) (put_more c.put_bytes-a.ensures c.put_three.ensures)

@@ -3,7 +3,7 @@
 use mathlib.Core.Path.{refl, ap}
 use borrow.Author.Rules.{rules}
 use Rattle.sheet.specs.Rules.{read_verdict}
-use Rattle.reply.proofs.Reading.{read_small, read-third, replied_called, replied-refused, replied_answer}
+use Rattle.reply.proofs.Reading.{read_small, read_third, replied_called, replied_refused, replied_answer}
 use Rattle.reply.proofs.reply.Goals as goal
 
 pub answer_job-requires : goal.answer_job-requires
@@ -11,7 +11,7 @@ answer_job-requires c =
     record {
       small = read_small c.read_job.ensures c.in-Done.is;
       rooms = record { first = search rules; second = search rules; third = search rules };
-      third = read-third c.read_job.ensures c.in-Done.is;
+      third = read_third c.read_job.ensures c.in-Done.is;
       fourth = record { zeros = refl };
       scratch = record { zeros = refl };
       room = search rules;
@@ -28,4 +28,4 @@ returns-in-Refused c =
 pub returns-in-Broken : goal.returns-in-Broken
 unfolding read_verdict
 returns-in-Broken c =
-    replied-refused c.read_job.ensures (ap read_verdict c.in-Broken.is) c.put_refusal.ensures
+    replied_refused c.read_job.ensures (ap read_verdict c.in-Broken.is) c.put_refusal.ensures

@@ -9,7 +9,7 @@ use Rattle.lines.specs.declared.Numbers.{Numbers}
 use Rattle.lines.specs.Forms.{matrix_forms}
 use Rattle.lines.specs.Steps.{form_of, Passed}
 use Rattle.lines.proofs.Forms.{total-matrix}
-use Rattle.lines.proofs.Passes.{read_more, read-stop}
+use Rattle.lines.proofs.Passes.{read_more, read_stop}
 use Rattle.body.proofs.Sizes.{sizes}
 use Rattle.result.specs.ResultSheet.{result_lines}
 use Rattle.reread.proofs.Results.{awaited_ready, matrix-small}
@@ -39,7 +39,7 @@ unfolding result_lines
 returns-in_default c =
     let a = c.args in
     let new = c.read_matrix-first.new.w in
-    read-stop a.s.now a.c (entries 89 a.series a.r) (entries 90 a.series a.r) 0 a.w.now new _ _
+    read_stop a.s.now a.c (entries 89 a.series a.r) (entries 90 a.series a.r) 0 a.w.now new _ _
     c.in_default.is c.read_matrix-first.ensures
 
 -- the entries of Y are passed

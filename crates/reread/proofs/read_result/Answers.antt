@@ -5,7 +5,7 @@ use Rattle.job.specs.Refusal.{done, Says}
 use Rattle.header.specs.Header.{word_of}
 use Rattle.sheet.specs.Rules.{room_rules}
 use Rattle.sheet.specs.Parts.{Started}
-use Rattle.sheet.proofs.Before.{kinds-started, start_large}
+use Rattle.sheet.proofs.Before.{kinds_started, start_large}
 use Rattle.sheet.proofs.Outcomes.{outcome_rooms, outcome_stop, outcome_taken}
 use Rattle.result.specs.ResultSheet.{result_words, result_forms}
 use Rattle.reread.proofs.Results.{result_led, room_first, room_second, rooms_done, room_refused}
@@ -44,7 +44,7 @@ begun
     : (c : After-begin) →
     Started result_forms result_words c.args.s.now c.begin.result
 unfolding word_of
-begun c = kinds-started result_led c.open_kinds-opening.ensures c.begin.ensures
+begun c = kinds_started result_led c.open_kinds-opening.ensures c.begin.ensures
 
 pub take_result-requires : goal.take_result-requires
 take_result-requires c = (

@@ -4,10 +4,10 @@ use mathlib.Core.Path.{◌∙◌}
 use Prim.Native.Nat.{◌≤◌}
 use native.Mathlib.Omega.{arith}
 use Rattle.job.specs.declared.Kind.TheVariants.{Basis}
-use Rattle.text.proofs.Puts.{put-more, put_as}
-use Rattle.result.proofs.Room.{header-room, matrix-room}
-use Rattle.result.proofs.Turns.{put_within, ready-earlier}
-use Rattle.result.proofs.Sheets.{basis-sheet}
+use Rattle.text.proofs.Puts.{put_more, put_as}
+use Rattle.result.proofs.Room.{header_room, matrix_room}
+use Rattle.result.proofs.Turns.{put_within, ready_earlier}
+use Rattle.result.proofs.Sheets.{basis_sheet}
 use Rattle.result.proofs.put_basis.Goals as goal
 use Rattle.result.proofs.put_basis.Goals.{After-put_header-a}
 
@@ -22,13 +22,13 @@ header_short : (c : After-put_header-a) → c.put_header-a.result ≤ 79
 header_short c =
     let a = c.args in
     let fits = c.ranges in
-    let short = header-room Basis a.r a.n a.p fits.r.fits fits.n.fits fits.p.fits in
+    let short = header_room Basis a.r a.n a.p fits.r.fits fits.n.fits fits.p.fits in
     omega (arith, short, c.put_header-a.ensures.end)
 
 pub put_matrix-b-requires : goal.put_matrix-b-requires
 put_matrix-b-requires c =
     let short = header_short (goal.at.put_matrix-b-requires c).After-put_header-a in
-    (c.requires.order, ready-earlier c.requires.first short c.put_header-a.ensures.long)
+    (c.requires.order, ready_earlier c.requires.first short c.put_header-a.ensures.long)
 
 pub put_matrix-requires : goal.put_matrix-requires
 put_matrix-requires c =
@@ -36,14 +36,14 @@ put_matrix-requires c =
     let pre = c.requires in
     let put = c.put_matrix-b.ensures in
     let below = pre.first.below in
-    let rows = matrix-room a.p c.ranges.p.fits a.y.now below a.n _ a.r 1 a.r in
+    let rows = matrix_room a.p c.ranges.p.fits a.y.now below a.n _ a.r 1 a.r in
     let end = put_within put (rows pre.order (omega arith) 0) in
     let line-short = header_short (goal.at.put_matrix-requires c).After-put_header-a in
     let same = put.long ∙ c.put_header-a.ensures.long in
-    (pre.order, ready-earlier pre.second (omega (arith, line-short, end)) same)
+    (pre.order, ready_earlier pre.second (omega (arith, line-short, end)) same)
 
 pub returns : goal.returns
 returns c =
     let a = c.args in
-    put_as (basis-sheet a.r a.n a.p a.y.now a.z.now c.requires.exact)
-    (put-more c.put_header-a.ensures (put-more c.put_matrix-b.ensures c.put_matrix.ensures))
+    put_as (basis_sheet a.r a.n a.p a.y.now a.z.now c.requires.exact)
+    (put_more c.put_header-a.ensures (put_more c.put_matrix-b.ensures c.put_matrix.ensures))

@@ -6,11 +6,11 @@ use lib.IntN.{ℤ}
 use mir.Syntax.{w64}
 use mir.Facts.{to_z-of_z}
 use Rattle.text.specs.Decimal.{spell}
-use Rattle.text.proofs.Puts.{put-more, put_as}
+use Rattle.text.proofs.Puts.{put_more, put_as}
 use Rattle.result.proofs.put_class.Goals as goal
 
 pub returns : goal.returns
 returns c =
     let passed = to_z-of_z {w = w64} (record { sfits = c.balance.type_inv }) in
     put_as (ap (λ (z : ℤ). 9 ∷ spell z) (passed ∙ c.balance.ensures))
-    (put-more c.put_byte-a.ensures c.put_number.ensures)
+    (put_more c.put_byte-a.ensures c.put_number.ensures)

@@ -1,8 +1,8 @@
 -- `result::put_field` meets its contract: one text after another.
 -- Assumes nothing.
-use Rattle.text.proofs.Puts.{put-more}
+use Rattle.text.proofs.Puts.{put_more}
 use Rattle.result.proofs.put_field.Goals as goal
 
 pub returns : goal.returns
 returns c =
-    put-more c.put_byte-a.ensures c.put_natural.ensures
+    put_more c.put_byte-a.ensures c.put_natural.ensures

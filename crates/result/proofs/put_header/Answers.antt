@@ -2,7 +2,7 @@
 -- Assumes nothing.
 use mathlib.Core.List.{append_assoc}
 use native.Mathlib.Omega.{arith}
-use Rattle.text.proofs.Puts.{put-more, put_as}
+use Rattle.text.proofs.Puts.{put_more, put_as}
 use Rattle.result.proofs.Room.{lead_room}
 use Rattle.result.proofs.put_header.Goals as goal
 
@@ -13,4 +13,4 @@ put_three-requires c =
 
 pub returns : goal.returns
 returns c =
-    put_as (simp append_assoc) (put-more c.put_lead-a.ensures c.put_three.ensures)
+    put_as (simp append_assoc) (put_more c.put_lead-a.ensures c.put_three.ensures)

@@ -5,7 +5,7 @@ use Prim.Native.Nat.{◌*◌}
 use native.Mathlib.Omega.{arith}
 use Rattle.result.specs.Print.{Ready, line_room}
 use Rattle.result.proofs.Products.{factor_within}
-use Rattle.result.proofs.Turns.{matrix-none, matrix-ready, matrix-next, matrix_all}
+use Rattle.result.proofs.Turns.{matrix-none, matrix_ready, matrix_next, matrix_all}
 use Rattle.result.proofs.put_matrix.Goals as goal
 use Rattle.result.proofs.put_matrix.Goals.{In-loop-i}
 
@@ -29,7 +29,7 @@ next_row
     Ready a.p a.s.now (c.loop-i.i * (a.order * a.count)) (a.order * a.count)
     c.loop-i.d c.loop-i.e (a.order * line_room 3 a.count)
 next_row c =
-    matrix-ready c.requires.0 c.requires.1 c.loop-i.invariant (omega arith) (omega arith)
+    matrix_ready c.requires.0 c.requires.1 c.loop-i.invariant (omega arith) (omega arith)
 
 pub overflow_mul-i : goal.overflow_mul-i
 overflow_mul-i c = omega (arith, (next_row (goal.at.overflow_mul-i c).In-loop-i).words)
@@ -45,7 +45,7 @@ loop-i-smaller c = omega arith
 
 pub loop-i-preserved : goal.loop-i-preserved
 loop-i-preserved c =
-    matrix-next c.requires.0 c.requires.1 c.loop-i.invariant (omega arith) c.put_rows-e.ensures
+    matrix_next c.requires.0 c.requires.1 c.loop-i.invariant (omega arith) c.put_rows-e.ensures
 
 pub returns : goal.returns
 returns c =

@@ -3,7 +3,7 @@
 -- Assumes nothing.
 use Prim.Native.Nat.{◌+◌}
 use native.Mathlib.Omega.{arith}
-use Rattle.result.proofs.Turns.{numbers-none, numbers_room, numbers-next, numbers-all}
+use Rattle.result.proofs.Turns.{numbers-none, numbers_room, numbers_next, numbers_all}
 use Rattle.result.proofs.put_numbers.Goals as goal
 
 pub loop-k-init : goal.loop-k-init
@@ -31,7 +31,7 @@ loop-k-smaller c = omega arith
 
 pub loop-k-preserved : goal.loop-k-preserved
 loop-k-preserved c =
-    numbers-next c.requires c.loop-k.invariant (omega arith) c.put_class-e.ensures
+    numbers_next c.requires c.loop-k.invariant (omega arith) c.put_class-e.ensures
 
 pub put_byte-requires : goal.put_byte-requires
 put_byte-requires c =
@@ -40,4 +40,4 @@ put_byte-requires c =
 
 pub returns : goal.returns
 returns c =
-    numbers-all c.requires c.loop-k.invariant (omega arith) c.put_byte.ensures
+    numbers_all c.requires c.loop-k.invariant (omega arith) c.put_byte.ensures

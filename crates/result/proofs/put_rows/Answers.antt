@@ -5,7 +5,7 @@ use Prim.Native.Nat.{◌+◌, ◌*◌}
 use native.Mathlib.Omega.{arith}
 use lib.ListN.{length}
 use Rattle.result.specs.Print.{Ready, line_room}
-use Rattle.result.proofs.Turns.{rows_none, rows-ready, rows_next, rows_all}
+use Rattle.result.proofs.Turns.{rows_none, rows_ready, rows_next, rows_all}
 use Rattle.result.proofs.put_rows.Goals as goal
 use Rattle.result.proofs.put_rows.Goals.{In-loop-i}
 
@@ -19,7 +19,7 @@ next_row
     Ready a.p a.s.now (a.from + c.loop-i.i * a.count) a.count c.loop-i.d c.loop-i.e
     (line_room (length a.h.now) a.count)
 next_row c =
-    rows-ready c.requires c.loop-i.invariant (omega arith) (omega arith) (omega arith)
+    rows_ready c.requires c.loop-i.invariant (omega arith) (omega arith) (omega arith)
 
 pub overflow_add-i : goal.overflow_add-i
 overflow_add-i c = omega arith

@@ -4,7 +4,7 @@
 use Prim.Native.Nat.{◌+◌, ◌≤◌}
 use native.Mathlib.Omega.{arith}
 use lib.ListN.{length}
-use Rattle.text.proofs.Puts.{put-more}
+use Rattle.text.proofs.Puts.{put_more}
 use Rattle.result.proofs.Room.{field_room}
 use Rattle.result.proofs.put_three.Goals as goal
 use Rattle.result.proofs.put_three.Goals.{After-put_field-a, After-put_field-b, Start}
@@ -32,5 +32,5 @@ put_byte-requires c =
 
 pub returns : goal.returns
 returns c =
-    let two = put-more c.put_field-a.ensures c.put_field-b.ensures in
-    put-more (put-more two c.put_field-c.ensures) c.put_byte.ensures
+    let two = put_more c.put_field-a.ensures c.put_field-b.ensures in
+    put_more (put_more two c.put_field-c.ensures) c.put_byte.ensures

@@ -10,22 +10,22 @@ use Rattle.job.specs.Job.{bytes}
 use Rattle.job.specs.Rules.{limit_rules, size_rules}
 use Rattle.refusal.proofs.Judged.{judged_done}
 use Rattle.result.proofs.Checks.{
-  limits-refuse,
-  basis-wrong,
-  basis-inverse,
-  basis-text,
-  basis-over,
-  basis-inverse-over,
+  limits_refuse,
+  basis_wrong,
+  basis_inverse,
+  basis_text,
+  basis_over,
+  basis_inverse_over,
   basis_done,
 }
-use Rattle.result.proofs.Sizes.{limits, small, square, basis-ready}
+use Rattle.result.proofs.Sizes.{limits, small, square, basis_ready}
 use Rattle.result.proofs.write_basis.Goals as goal
 use Rattle.result.proofs.write_basis.Goals.{In-Done, Start}
 
 pub returns-in_default : goal.returns-in_default
 returns-in_default c =
     let a = c.args in
-    limits-refuse a.r a.n a.p Basis (a.y.now ∷ a.z.now ∷ []) a.text.now
+    limits_refuse a.r a.n a.p Basis (a.y.now ∷ a.z.now ∷ []) a.text.now
     c.check_small-limits.ensures c.in_default.not-Done
 
 -- behind 1 to 4 and 10
@@ -48,15 +48,15 @@ overflow_mul-count-2 c = omega (arith, few c)
 
 pub returns-then-y-count : goal.returns-then-y-count
 returns-then-y-count c =
-    basis-wrong (passed (goal.at.returns-then-y-count c).In-Done) (λ e. c.if-y-count.true (omega arith))
+    basis_wrong (passed (goal.at.returns-then-y-count c).In-Done) (λ e. c.if-y-count.true (omega arith))
 
 pub returns-then-z-count : goal.returns-then-z-count
 returns-then-z-count c =
-    basis-inverse (passed (goal.at.returns-then-z-count c).In-Done) (omega arith) (λ e. c.if-z-count.true (omega arith))
+    basis_inverse (passed (goal.at.returns-then-z-count c).In-Done) (omega arith) (λ e. c.if-z-count.true (omega arith))
 
 pub returns-then-text-ne65536 : goal.returns-then-text-ne65536
 returns-then-text-ne65536 c =
-    basis-text (passed (goal.at.returns-then-text-ne65536 c).In-Done) (omega arith) (omega arith)
+    basis_text (passed (goal.at.returns-then-text-ne65536 c).In-Done) (omega arith) (omega arith)
     (λ e. c.if-text-ne65536.true (omega arith))
 
 -- a modulus within the limits has room in a word
@@ -71,7 +71,7 @@ overflow_cast-result c = omega (arith, few (goal.at.overflow_cast-result c).In-D
 
 pub returns-then-k-count : goal.returns-then-k-count
 returns-then-k-count c =
-    basis-over (passed (goal.at.returns-then-k-count c).In-Done) (omega arith) (omega arith) (omega arith)
+    basis_over (passed (goal.at.returns-then-k-count c).In-Done) (omega arith) (omega arith) (omega arith)
     c.find_over-k.ensures (omega arith)
 
 pub overflow_cast-p-2 : goal.overflow_cast-p-2
@@ -83,14 +83,14 @@ overflow_cast-result-then-l-count c =
 
 pub returns-then-l-count : goal.returns-then-l-count
 returns-then-l-count c =
-    basis-inverse-over (passed (goal.at.returns-then-l-count c).In-Done) (omega arith) (omega arith) (omega arith)
+    basis_inverse_over (passed (goal.at.returns-then-l-count c).In-Done) (omega arith) (omega arith) (omega arith)
     c.find_over-k.ensures (omega arith)
     c.find_over-l.ensures (omega arith)
 
 pub put_basis-length-requires : goal.put_basis-length-requires
 put_basis-length-requires c =
     let a = c.args in
-    basis-ready a.r a.n a.p (passed (goal.at.put_basis-length-requires c).In-Done) (omega arith) (omega arith)
+    basis_ready a.r a.n a.p (passed (goal.at.put_basis-length-requires c).In-Done) (omega arith) (omega arith)
     (omega arith)
     c.find_over-k.ensures (omega arith) c.find_over-l.ensures (omega arith)
 

@@ -8,15 +8,15 @@ use Rattle.job.specs.Refusal.{done, Says}
 use Rattle.job.specs.Job.{bytes}
 use Rattle.job.specs.Rules.{limit_rules, size_rules}
 use Rattle.refusal.proofs.Judged.{judged_done}
-use Rattle.result.proofs.Checks.{limits-refuse, vector_wrong, vector_text, vector_over, vector_done}
-use Rattle.result.proofs.Sizes.{limits, rows_few, vector-ready}
+use Rattle.result.proofs.Checks.{limits_refuse, vector_wrong, vector_text, vector_over, vector_done}
+use Rattle.result.proofs.Sizes.{limits, rows_few, vector_ready}
 use Rattle.result.proofs.write_vector.Goals as goal
 use Rattle.result.proofs.write_vector.Goals.{In-Done, Start}
 
 pub returns-in_default : goal.returns-in_default
 returns-in_default c =
     let a = c.args in
-    limits-refuse a.r a.n a.p a.kind (a.y.now ∷ []) a.text.now
+    limits_refuse a.r a.n a.p a.kind (a.y.now ∷ []) a.text.now
     c.check_small-limits.ensures c.in_default.not-Done
 
 -- behind 1 to 4 and 10
@@ -59,7 +59,7 @@ returns-then-k-count c =
 pub put_vector-length-requires : goal.put_vector-length-requires
 put_vector-length-requires c =
     let a = c.args in
-    vector-ready a.r a.n a.p (passed (goal.at.put_vector-length-requires c).In-Done) a.kind a.rows c.requires
+    vector_ready a.r a.n a.p (passed (goal.at.put_vector-length-requires c).In-Done) a.kind a.rows c.requires
     (omega arith) (omega arith) c.find_over-k.ensures (omega arith)
 
 pub returns : goal.returns

@@ -39,7 +39,7 @@ overflow_add-to c = omega (arith, write_inside (goal.at.overflow_add-to c).In-lo
 pub copy-requires : goal.copy-requires
 copy-requires c =
     let turn = (goal.at.copy-requires c).In-loop-e in
-    (record { within = read_inside turn }, record { within = write_inside turn })
+    (record { within = omega (arith, read_inside turn) }, record { within = omega (arith, write_inside turn) })
 
 pub loop-e-preserved : goal.loop-e-preserved
 loop-e-preserved c =

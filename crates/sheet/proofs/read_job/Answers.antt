@@ -8,7 +8,7 @@ use Rattle.header.specs.Header.{word_of}
 use Rattle.sheet.specs.JobSheet.{job_forms}
 use Rattle.sheet.specs.Rules.{room_rules}
 use Rattle.sheet.specs.Parts.{Started}
-use Rattle.sheet.proofs.Before.{rooms_roomy, kinds-started, start_large}
+use Rattle.sheet.proofs.Before.{rooms_roomy, kinds_started, start_large}
 use Rattle.sheet.proofs.Outcomes.{job_led, outcome_rooms, outcome_stop, outcome_taken}
 use Rattle.sheet.proofs.read_job.Goals as goal
 use Rattle.sheet.proofs.read_job.Goals.{After-begin, In-Done}
@@ -44,7 +44,7 @@ begun
     : (c : After-begin) →
     Started job_forms word_of c.args.s.now c.begin.result
 unfolding word_of
-begun c = kinds-started job_led c.open_kinds-opening.ensures c.begin.ensures
+begun c = kinds_started job_led c.open_kinds-opening.ensures c.begin.ensures
 
 pub take_job-requires : goal.take_job-requires
 take_job-requires c =

@@ -7,7 +7,7 @@ use native.Mathlib.Omega.{arith}
 use lib.IntN.{negsuc}
 use mir.Syntax.{w64}
 use mir.Facts.{to_z-of_z}
-use Rattle.text.proofs.Machine.{is_negative, is_natural, next_fits, turned_fits, turned-back}
+use Rattle.text.proofs.Machine.{is_negative, is_natural, next_fits, turned_fits, turned_back}
 use Rattle.text.proofs.magnitude.Goals as goal
 use Rattle.text.proofs.magnitude.Goals.{Then-x-lt0}
 
@@ -22,10 +22,10 @@ pub overflow_sub-result : goal.overflow_sub-result
 overflow_sub-result c = let n = negative c in rw n.1 (turned_fits n.0 n.2)
 
 pub overflow_cast-result : goal.overflow_cast-result
-overflow_cast-result c = let n = negative c in rw (n.1, turned-back n.0 n.2) (tt, omega (arith, n.2))
+overflow_cast-result c = let n = negative c in rw (n.1, turned_back n.0 n.2) (tt, omega (arith, n.2))
 
 pub overflow_add-result-then-x-lt0 : goal.overflow_add-result-then-x-lt0
-overflow_add-result-then-x-lt0 c = let n = negative c in rw (n.1, turned-back n.0 n.2) (omega (arith, n.2))
+overflow_add-result-then-x-lt0 c = let n = negative c in rw (n.1, turned_back n.0 n.2) (omega (arith, n.2))
 
 pub overflow_cast-result-else-x-lt0 : goal.overflow_cast-result-else-x-lt0
 overflow_cast-result-else-x-lt0 c =
@@ -33,4 +33,4 @@ overflow_cast-result-else-x-lt0 c =
     rw (to_z-of_z {w = w64} {z = c.args.x} c.ranges.x, n.1) (tt, omega (arith, n.2))
 
 pub returns-then-x-lt0 : goal.returns-then-x-lt0
-returns-then-x-lt0 c = let n = negative c in rw (n.1, turned-back n.0 n.2) (add-one n.0)
+returns-then-x-lt0 c = let n = negative c in rw (n.1, turned_back n.0 n.2) (add-one n.0)

@@ -8,7 +8,7 @@ use native.Mathlib.Omega.{arith}
 use native.Mathlib.Numerals.{add-one}
 use lib.ListN.{length, drop, drop_of_length-le}
 use Rattle.text.specs.Decimal.{digits}
-use Rattle.text.proofs.Digits.{Goes, spelled, Ahead, ahead, Goes-step, take-digit}
+use Rattle.text.proofs.Digits.{Goes, spelled, Ahead, ahead, Goes-step, take_digit}
 use Rattle.text.proofs.read_natural.Goals as goal
 use Rattle.text.proofs.read_natural.Goals.{After-wide-b, then-n-eq0+else-i-gt0, else-n-eq0}
 
@@ -57,7 +57,7 @@ loop-i-preserved c =
       omega arith,
       (λ z. absurd (omega arith)),
       (λ z. rw (e, b)
-          (take-digit f l.i h l.n lead l.invariant.2 (omega (arith, b)) (omega (arith, b)) l.invariant.3)),
+          (take_digit f l.i h l.n lead l.invariant.2 (omega (arith, b)) (omega (arith, b)) l.invariant.3)),
       λ x q. rw (e, b) (Goes-step f l.i h l.n x (l.invariant.4 x q)).3,
     )
 

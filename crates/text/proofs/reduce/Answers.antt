@@ -3,7 +3,7 @@
 use mathlib.Core.Path.{ap}
 use lib.IntN.{nat_abs}
 use Rattle.text.proofs.Machine.{quot_fits}
-use Rattle.text.proofs.Classes.{sum_fits, sum_back, sum-cast, rem_is, rem_cast}
+use Rattle.text.proofs.Classes.{sum_fits, sum_back, sum_cast, rem_is, rem_cast}
 use Rattle.text.proofs.reduce.Goals as goal
 
 pub nonzero_rem-m : goal.nonzero_rem-m
@@ -15,7 +15,7 @@ overflow_add-result c =
 
 pub overflow_cast-result : goal.overflow_cast-result
 overflow_cast-result c =
-    sum-cast c.args.x c.ranges.x c.args.p c.ranges.p.fits c.requires c.if-m-lt0.true
+    sum_cast c.args.x c.ranges.x c.args.p c.ranges.p.fits c.requires c.if-m-lt0.true
 
 pub overflow_cast-result-else-m-lt0 : goal.overflow_cast-result-else-m-lt0
 overflow_cast-result-else-m-lt0 c =
