@@ -27,8 +27,7 @@ fn pack(a: Answer) -> u64
 }
 
 // The system job by halving.
-#[unsafe(no_mangle)]
-pub extern "C" fn pealvixen_system_halving(
+pub fn pealvixen_system_halving(
     r: u64,
     n: u64,
     p: u64,
@@ -49,8 +48,7 @@ pub extern "C" fn pealvixen_system_halving(
 }
 
 // The system job by Newton.
-#[unsafe(no_mangle)]
-pub extern "C" fn pealvixen_system_newton(
+pub fn pealvixen_system_newton(
     r: u64,
     n: u64,
     p: u64,
@@ -71,8 +69,7 @@ pub extern "C" fn pealvixen_system_newton(
 }
 
 // The basis job: a basis and its inverse.
-#[unsafe(no_mangle)]
-pub extern "C" fn pealvixen_basis(
+pub fn pealvixen_basis(
     r: u64,
     n: u64,
     p: u64,
@@ -93,8 +90,7 @@ pub extern "C" fn pealvixen_basis(
 }
 
 // The equation job by halving.
-#[unsafe(no_mangle)]
-pub extern "C" fn pealvixen_equation_halving(
+pub fn pealvixen_equation_halving(
     r: u64,
     n: u64,
     p: u64,
@@ -115,8 +111,7 @@ pub extern "C" fn pealvixen_equation_halving(
 }
 
 // The equation job by Newton.
-#[unsafe(no_mangle)]
-pub extern "C" fn pealvixen_equation_newton(
+pub fn pealvixen_equation_newton(
     r: u64,
     n: u64,
     p: u64,
@@ -137,8 +132,7 @@ pub extern "C" fn pealvixen_equation_newton(
 }
 
 // The system job by halving, on bytes.
-#[unsafe(no_mangle)]
-pub extern "C" fn pealvixen_system_halving_bytes(
+pub fn pealvixen_system_halving_bytes(
     r: u64,
     n: u64,
     p: u64,
@@ -159,8 +153,7 @@ pub extern "C" fn pealvixen_system_halving_bytes(
 }
 
 // The system job by Newton, on bytes.
-#[unsafe(no_mangle)]
-pub extern "C" fn pealvixen_system_newton_bytes(
+pub fn pealvixen_system_newton_bytes(
     r: u64,
     n: u64,
     p: u64,
@@ -181,8 +174,7 @@ pub extern "C" fn pealvixen_system_newton_bytes(
 }
 
 // The basis job, on bytes.
-#[unsafe(no_mangle)]
-pub extern "C" fn pealvixen_basis_bytes(
+pub fn pealvixen_basis_bytes(
     r: u64,
     n: u64,
     p: u64,
@@ -203,8 +195,7 @@ pub extern "C" fn pealvixen_basis_bytes(
 }
 
 // The equation job by halving, on bytes.
-#[unsafe(no_mangle)]
-pub extern "C" fn pealvixen_equation_halving_bytes(
+pub fn pealvixen_equation_halving_bytes(
     r: u64,
     n: u64,
     p: u64,
@@ -225,8 +216,7 @@ pub extern "C" fn pealvixen_equation_halving_bytes(
 }
 
 // The equation job by Newton, on bytes.
-#[unsafe(no_mangle)]
-pub extern "C" fn pealvixen_equation_newton_bytes(
+pub fn pealvixen_equation_newton_bytes(
     r: u64,
     n: u64,
     p: u64,
@@ -303,8 +293,7 @@ fn tell(x: Reading) -> SheetRead
 }
 
 // Reads a job sheet into three rooms.
-#[unsafe(no_mangle)]
-pub extern "C" fn pealvixen_read_job(
+pub fn pealvixen_read_job(
     text: &[u8],
     one: &mut [u32],
     two: &mut [u32],
@@ -318,8 +307,7 @@ pub extern "C" fn pealvixen_read_job(
 }
 
 // Reads a result sheet into two rooms.
-#[unsafe(no_mangle)]
-pub extern "C" fn pealvixen_read_result(text: &[u8], one: &mut [u32], two: &mut [u32]) -> SheetRead
+pub fn pealvixen_read_result(text: &[u8], one: &mut [u32], two: &mut [u32]) -> SheetRead
     ensures { ReadTold (ResultOutcome text.now (one.old ∷ two.old ∷ [])) result
         (one.new ∷ two.new ∷ []) }
 {
@@ -352,14 +340,7 @@ fn tell_written(w: Written) -> SheetWritten
 }
 
 // Writes the result sheet of a system.
-#[unsafe(no_mangle)]
-pub extern "C" fn pealvixen_write_system(
-    r: u64,
-    n: u64,
-    p: u64,
-    y: &[u32],
-    text: &mut [u8],
-) -> SheetWritten
+pub fn pealvixen_write_system(r: u64, n: u64, p: u64, y: &[u32], text: &mut [u8]) -> SheetWritten
     ensures { WriteTold (header System r n p) (y.now ∷ [])
         text.old result text.new }
 {
@@ -368,14 +349,7 @@ pub extern "C" fn pealvixen_write_system(
 }
 
 // Writes the result sheet of an equation.
-#[unsafe(no_mangle)]
-pub extern "C" fn pealvixen_write_equation(
-    r: u64,
-    n: u64,
-    p: u64,
-    y: &[u32],
-    text: &mut [u8],
-) -> SheetWritten
+pub fn pealvixen_write_equation(r: u64, n: u64, p: u64, y: &[u32], text: &mut [u8]) -> SheetWritten
     ensures { WriteTold (header Equation r n p) (y.now ∷ [])
         text.old result text.new }
 {
@@ -384,8 +358,7 @@ pub extern "C" fn pealvixen_write_equation(
 }
 
 // Writes the result sheet of a basis.
-#[unsafe(no_mangle)]
-pub extern "C" fn pealvixen_write_basis(
+pub fn pealvixen_write_basis(
     r: u64,
     n: u64,
     p: u64,
