@@ -117,7 +117,7 @@ def table(logic, others):
             new += "_lem"
         if new != name and name not in foreign:
             renamed[name] = new
-    # names that would fall together with another name in use keep the dash
+    # names that would fall together with another name in use: --list shows them, and CHOSEN settles them
     taken = set(kinds) | foreign
     for path in logic:
         taken |= set(re.findall(WORD, read(path)))

@@ -1,7 +1,8 @@
 // The solving program: reads one job sheet on standard input and prints its result sheet, or the line of its refusal.
 #![tactic(auto)]
 
-ghost use Rattle.std.specs.Prelude.{◌≡◌, ◌≤◌, IfOk, length};
+ghost use Rattle.std.specs.Prelude.{◌≡◌, ◌≤◌, ◌<◌, IfOk, length, take};
+ghost use Rattle.std.specs.Io.KnownBytes.{Consumes, IsAtEnd};
 
 use std::io::{self, Read, Write};
 
@@ -12,9 +13,12 @@ fn room() -> [u8; 65537]
     [0; 65537]
 }
 
-// Reads until the buffer is full or the input ends: how many bytes it then holds.
+// Reads until the buffer is full or the input ends: how many bytes it then holds. Where the input says which bytes it
+// has left, they are the first of these, and all of them unless the buffer is full.
 fn read_full<R: Read>(input: &mut R, buffer: &mut [u8]) -> io::Result<usize>
-    ensures { IfOk result (λ n. n ≤ length buffer.new) }
+    ensures bound { IfOk result (λ n. n ≤ length buffer.new) }
+    ensures bytes { IfOk result (λ n. Consumes (R.remaining input.old) (R.remaining input.new) (take n buffer.new)) }
+    ensures whole { IfOk result (λ n. n < length buffer.new → IsAtEnd (R.remaining input.new)) }
 {
     let mut length = 0;
     while length < buffer.len() {
