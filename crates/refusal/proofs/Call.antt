@@ -9,7 +9,7 @@ use Rattle.job.specs.Refusal.{Rule, Answer}
 use Rattle.job.specs.Job.{Job, Buffers, listed, Handed, words, bytes, cells_of, lengths_of, read_count}
 use Rattle.job.specs.Rules.{limit_rules, size_rules, length_rules, word_rules, read_rules, check_rules}
 use Rattle.job.proofs.Says.{says_split}
-use Rattle.job.proofs.Accepted.{Limits, limits_of, Sized-of}
+use Rattle.job.proofs.Accepted.{Limits, Sized, limits_of, Sized-of}
 use Rattle.refusal.specs.Checked.{Judged, Checked, Measured, Compared, Readable}
 use Rattle.refusal.proofs.Judged.{judged_next, judged_stop, judged_last}
 
@@ -54,68 +54,77 @@ module _ (h : Handed) (job : Job) where
   unfolding check_rules
   sizes_stop j = judged_stop _ (judged_stop exact j)
 
-  module _ {l : List ℕ} (measured : Measured job.kind job.r job.n l) where
-    -- what is said of the lengths
-    pub lengths_judged
-        : {cells : ℕ} {are : List ℕ} {a : Answer} → Compared cells l are a → cells ≡ cells_of h
-        → are ≡ map length (listed job.lent) → Judged exact a
-    lengths_judged compared e f = record { says = rw measured.exact at (compared.says h (listed job.lent) e f) }
+  -- what is said of the lengths
+  pub lengths_judged
+      : {l : List ℕ} {cells : ℕ} {are : List ℕ} {a : Answer} → Measured job.kind job.r job.n l
+      → Compared cells l are a → cells ≡ cells_of h → are ≡ map length (listed job.lent) → Judged exact a
+  lengths_judged measured compared e f = record {
+    says = rw measured.exact at (compared.says h (listed job.lent) e f);
+  }
 
-    module _ (silent : Judged sizes (Ok tt)) where
-      pub lengths_stop : {x : Refusal} → Judged exact (Err x) → Checked h job (Err x)
-      unfolding check_rules
-      lengths_stop j = judged_stop _ (judged_next silent j)
+  pub lengths_stop : {x : Refusal} → Judged sizes (Ok tt) → Judged exact (Err x) → Checked h job (Err x)
+  unfolding check_rules
+  lengths_stop silent j = judged_stop _ (judged_next silent j)
 
-      module _ (exactly : Judged exact (Ok tt)) where
-        -- the words of the buffer at i of the five
-        readable
-            : (i : ℕ) (s : List ℕ) → length s ≡ cells_of h * get_or (lengths_of job.kind job.r job.n) i 0
-            → Readable h (get_or l i 0) s
-        readable i s len =
-            let bound = measured.bounded.within i in
-            let same = ap (λ (m : List ℕ). cells_of h * get_or m i 0) measured.exact in
-            record { few = bound; within = omega arith }
+-- 1 to 5 are silent, and these are the lengths in words
+pub record Passed (h : Handed) (job : Job) (l : List ℕ) : Type 0 where
+  pub measured : Measured job.kind job.r job.n l
+  pub small : Judged (sizes h job) (Ok tt)
+  pub long : Judged (exact h job) (Ok tt)
 
-        pub read_one : Readable h (get_or l 0 0) job.lent.one
-        read_one = readable 0 job.lent.one (Sized-of h job.kind job.r job.n job.lent exactly.says).one
+module _ {h : Handed} {job : Job} {l : List ℕ} (passed : Passed h job l) where
+  -- the words of the buffer at i of the five
+  readable
+      : (i : ℕ) (s : List ℕ) → length s ≡ cells_of h * get_or (lengths_of job.kind job.r job.n) i 0
+      → Readable h (get_or l i 0) s
+  readable i s len =
+      let bound = passed.measured.bounded.within i in
+      let same = ap (λ (m : List ℕ). cells_of h * get_or m i 0) passed.measured.exact in
+      record { few = bound; within = omega arith }
 
-        pub read_two : Readable h (get_or l 1 0) job.lent.two
-        read_two = readable 1 job.lent.two (Sized-of h job.kind job.r job.n job.lent exactly.says).two
+  lengths : Sized h (lengths_of job.kind job.r job.n) job.lent
+  lengths = Sized-of h job.kind job.r job.n job.lent passed.long.says
 
-        pub read_three : Readable h (get_or l 2 0) job.lent.three
-        read_three = readable 2 job.lent.three (Sized-of h job.kind job.r job.n job.lent exactly.says).three
+  pub read_one : Readable h (get_or l 0 0) job.lent.one
+  read_one = readable 0 job.lent.one lengths.one
 
-        -- what is said of the words behind 5
-        abbrev first : List Rule
-        first = word_rules h job.p 1 job.lent.one 0 (get_or l 0 0)
+  pub read_two : Readable h (get_or l 1 0) job.lent.two
+  read_two = readable 1 job.lent.two lengths.two
 
-        abbrev second : List Rule
-        second = word_rules h job.p 2 job.lent.two 0 (get_or l 1 0)
+  pub read_three : Readable h (get_or l 2 0) job.lent.three
+  read_three = readable 2 job.lent.three lengths.three
 
-        abbrev third : List Rule
-        third = word_rules h job.p 3 job.lent.three 0 (get_or l 2 0)
+  -- the rules of the words of each buffer
+  abbrev first : List Rule
+  first = word_rules h job.p 1 job.lent.one 0 (get_or l 0 0)
 
-        words_judged
-            : {a : Answer} → Judged (first ++ (second ++ third_rules h job.p job.lent.three (get_or l 2 0) job.kind)) a
-            → Checked h job a
-        unfolding check_rules
-        words_judged j =
-            let same = reads h job.kind job.r job.n job.p job.lent in
-            judged_next (judged_next silent exactly) (rw same (rw measured.exact at j))
+  abbrev second : List Rule
+  second = word_rules h job.p 2 job.lent.two 0 (get_or l 1 0)
 
-        pub first_stop : {x : Refusal} → Judged first (Err x) → Checked h job (Err x)
-        first_stop j = words_judged (judged_stop _ j)
+  abbrev third : List Rule
+  third = word_rules h job.p 3 job.lent.three 0 (get_or l 2 0)
 
-        module _ (one : Judged first (Ok tt)) where
-          pub second_stop : {x : Refusal} → Judged second (Err x) → Checked h job (Err x)
-          second_stop j = words_judged (judged_next one (judged_stop _ j))
+  words_judged
+      : {a : Answer} → Judged (first ++ (second ++ third_rules h job.p job.lent.three (get_or l 2 0) job.kind)) a
+      → Checked h job a
+  unfolding check_rules
+  words_judged j =
+      let same = reads h job.kind job.r job.n job.p job.lent in
+      judged_next (judged_next passed.small passed.long) (rw same (rw passed.measured.exact at j))
 
-          module _ (two : Judged second (Ok tt)) where
-            -- a basis: its third buffer is not read
-            pub two_read : job.kind ≡ Basis → Checked h job (Ok tt)
-            two_read e = words_judged (rw e (judged_next one (judged_last two)))
+  pub first_stop : {x : Refusal} → Judged first (Err x) → Checked h job (Err x)
+  first_stop j = words_judged (judged_stop _ j)
 
-            pub third_judged
-                : {a : Answer} → (job.kind ≡ System) ⊎ (job.kind ≡ Equation) → Judged third a → Checked h job a
-            third_judged (inl e) j = words_judged (rw e (judged_next one (judged_next two (judged_last j))))
-            third_judged (inr e) j = words_judged (rw e (judged_next one (judged_next two (judged_last j))))
+  module _ (one : Judged first (Ok tt)) where
+    pub second_stop : {x : Refusal} → Judged second (Err x) → Checked h job (Err x)
+    second_stop j = words_judged (judged_next one (judged_stop _ j))
+
+    module _ (two : Judged second (Ok tt)) where
+      -- a basis: its third buffer is not read
+      pub two_read : job.kind ≡ Basis → Checked h job (Ok tt)
+      two_read e = words_judged (rw e (judged_next one (judged_last two)))
+
+      pub third_judged
+          : {a : Answer} → (job.kind ≡ System) ⊎ (job.kind ≡ Equation) → Judged third a → Checked h job a
+      third_judged (inl e) j = words_judged (rw e (judged_next one (judged_next two (judged_last j))))
+      third_judged (inr e) j = words_judged (rw e (judged_next one (judged_next two (judged_last j))))

@@ -12,6 +12,7 @@ use Rattle.refusal.proofs.Call.{
   sizes_known,
   lengths_judged,
   lengths_stop,
+  Passed,
   read_one,
   read_two,
   read_three,
@@ -62,56 +63,61 @@ compared g c j =
 
 pub returns-in_err-check_lengths : goal.returns-in_err-check_lengths
 returns-in_err-check_lengths g c =
-    let p = err_from_is_err_and c.from_residual-in_err-check_lengths.result c.from_residual-in_err-check_lengths.ensures.1 in
+    let back = c.from_residual-in_err-check_lengths in
+    let p = err_from_is_err_and back.result back.ensures.1 in
     let at = goal.at.returns-in_err-check_lengths g c in
-    rw (p.1, p.2)
-    (lengths_stop _ _ c.lengths_of-should.ensures c.in_ok-check_size.ensures (compared g at.After-CELLS c.in_err-check_lengths.ensures))
+    let said = compared g at.After-CELLS c.in_err-check_lengths.ensures in
+    rw (p.1, p.2) (lengths_stop _ _ c.in_ok-check_size.ensures said)
 
 pub overflow_cast-q : goal.overflow_cast-q
-overflow_cast-q g c = let limits = sizes_known g.C.Cell.handed c.in_ok-check_size.ensures in record { fits = omega (arith, limits.half) }
+overflow_cast-q g c =
+    let limits = sizes_known g.C.Cell.handed c.in_ok-check_size.ensures in
+    record { fits = omega (arith, limits.half) }
 
-exactly : (g : given.Over) (c : In_ok-check_lengths g) → Judged (exact g.C.Cell.handed (job g (goal.at.In_ok-check_lengths g c).After-CELLS)) (Ok tt)
-exactly g c = compared g (goal.at.In_ok-check_lengths g c).After-CELLS c.in_ok-check_lengths.ensures
+-- 1 to 5 are silent
+passed
+    : (g : given.Over) (c : In_ok-check_lengths g)
+    → let at = goal.at.In_ok-check_lengths g c in
+    Passed g.C.Cell.handed (job g at.After-CELLS) c.lengths_of-should.result
+passed g c =
+    let at = goal.at.In_ok-check_lengths g c in
+    record {
+      measured = c.lengths_of-should.ensures;
+      small = c.in_ok-check_size.ensures;
+      long = compared g at.After-CELLS c.in_ok-check_lengths.ensures;
+    }
 
 pub check_buffer-requires : goal.check_buffer-requires
-check_buffer-requires g c =
-    let at = goal.at.check_buffer-requires g c in
-    read_one g.C.Cell.handed (job g at.After-CELLS) c.lengths_of-should.ensures c.in_ok-check_size.ensures (exactly g at.In_ok-check_lengths)
+check_buffer-requires g c = read_one (passed g (goal.at.check_buffer-requires g c).In_ok-check_lengths)
 
 pub returns-in_err-check_buffer : goal.returns-in_err-check_buffer
 returns-in_err-check_buffer g c =
-    let p = err_from_is_err_and c.from_residual-in_err-check_buffer.result c.from_residual-in_err-check_buffer.ensures.1 in
-    let at = goal.at.returns-in_err-check_buffer g c in
-    rw (p.1, p.2)
-    (first_stop g.C.Cell.handed (job g at.After-CELLS) c.lengths_of-should.ensures c.in_ok-check_size.ensures (exactly g at.In_ok-check_lengths)
-    c.in_err-check_buffer.ensures)
+    let back = c.from_residual-in_err-check_buffer in
+    let p = err_from_is_err_and back.result back.ensures.1 in
+    let known = passed g (goal.at.returns-in_err-check_buffer g c).In_ok-check_lengths in
+    rw (p.1, p.2) (first_stop known c.in_err-check_buffer.ensures)
 
 pub check_buffer-requires-2 : goal.check_buffer-requires-2
-check_buffer-requires-2 g c =
-    let at = goal.at.check_buffer-requires-2 g c in
-    read_two g.C.Cell.handed (job g at.After-CELLS) c.lengths_of-should.ensures c.in_ok-check_size.ensures (exactly g at.In_ok-check_lengths)
+check_buffer-requires-2 g c = read_two (passed g (goal.at.check_buffer-requires-2 g c).In_ok-check_lengths)
 
 pub returns-in_err-check_buffer-2 : goal.returns-in_err-check_buffer-2
 returns-in_err-check_buffer-2 g c =
-    let p = err_from_is_err_and c.from_residual-in_err-check_buffer-2.result c.from_residual-in_err-check_buffer-2.ensures.1 in
-    let at = goal.at.returns-in_err-check_buffer-2 g c in
-    rw (p.1, p.2)
-    (second_stop g.C.Cell.handed (job g at.After-CELLS) c.lengths_of-should.ensures c.in_ok-check_size.ensures (exactly g at.In_ok-check_lengths)
-    c.in_ok-check_buffer.ensures c.in_err-check_buffer-2.ensures)
+    let back = c.from_residual-in_err-check_buffer-2 in
+    let p = err_from_is_err_and back.result back.ensures.1 in
+    let known = passed g (goal.at.returns-in_err-check_buffer-2 g c).In_ok-check_lengths in
+    rw (p.1, p.2) (second_stop known c.in_ok-check_buffer.ensures c.in_err-check_buffer-2.ensures)
 
 pub check_buffer-requires-in-System : goal.check_buffer-requires-in-System
 check_buffer-requires-in-System g c =
-    let at = goal.at.check_buffer-requires-in-System g c in
-    read_three g.C.Cell.handed (job g at.After-CELLS) c.lengths_of-should.ensures c.in_ok-check_size.ensures (exactly g at.In_ok-check_lengths)
+    read_three (passed g (goal.at.check_buffer-requires-in-System g c).In_ok-check_lengths)
 
 pub returns-in-Basis : goal.returns-in-Basis
 returns-in-Basis g c =
-    let at = goal.at.returns-in-Basis g c in
-    two_read g.C.Cell.handed (job g at.After-CELLS) c.lengths_of-should.ensures c.in_ok-check_size.ensures (exactly g at.In_ok-check_lengths)
-    c.in_ok-check_buffer.ensures c.in_ok-check_buffer-2.ensures c.in-Basis.is
+    let known = passed g (goal.at.returns-in-Basis g c).In_ok-check_lengths in
+    two_read known c.in_ok-check_buffer.ensures c.in_ok-check_buffer-2.ensures c.in-Basis.is
 
 pub returns-in-System : goal.returns-in-System
 returns-in-System g c =
-    let at = goal.at.returns-in-System g c in
-    third_judged g.C.Cell.handed (job g at.After-CELLS) c.lengths_of-should.ensures c.in_ok-check_size.ensures (exactly g at.In_ok-check_lengths)
-    c.in_ok-check_buffer.ensures c.in_ok-check_buffer-2.ensures c.in-System.is c.check_buffer-in-System.ensures
+    let known = passed g (goal.at.returns-in-System g c).In_ok-check_lengths in
+    third_judged known c.in_ok-check_buffer.ensures c.in_ok-check_buffer-2.ensures c.in-System.is
+    c.check_buffer-in-System.ensures

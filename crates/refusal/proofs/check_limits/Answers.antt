@@ -39,7 +39,8 @@ returns-then-not-contains-3 c =
     let t : Among 1 4096 c.args.n = terms at.Else-not-contains-2 in
     elim c.then-not-contains-3.branch [
       | then-not-contains-3-via-then-not-contains-3 w ↦ modulus_outside _ _ _ o t (λ a. search (rules, tests))
-      | then-not-contains-3-via-else-not-contains-3+then-not-is_prime w ↦ modulus_no_prime _ _ _ o t (w.is_prime.ensures.no w.if-not-is_prime.true)
+      | then-not-contains-3-via-else-not-contains-3+then-not-is_prime w ↦
+          modulus_no_prime _ _ _ o t (w.is_prime.ensures.no w.if-not-is_prime.true)
     ]
 
 range : (c : Else-not-contains-3) → Among 2 2147483647 c.args.p
