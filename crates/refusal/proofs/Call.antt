@@ -1,7 +1,26 @@
 -- The checks of a call one behind the other, handed over as words or as bytes: 1 to 4 and 10, then 5, and what 6 then
 -- finds in the buffers that are read.
 -- Assumes nothing.
-use Rattle.std.proofs.Common.{◌≡◌, refl, ap, ◌⊎◌, inl, inr, List, [], ◌++◌, map, ℕ, ◌*◌, ◌≤◌, length, get_or, Ok, Err, arith}
+use Rattle.std.proofs.Common.{
+  ◌≡◌,
+  refl,
+  ap,
+  ◌⊎◌,
+  inl,
+  inr,
+  List,
+  [],
+  ◌++◌,
+  map,
+  ℕ,
+  ◌*◌,
+  ◌≤◌,
+  length,
+  get_or,
+  Ok,
+  Err,
+  arith,
+}
 use Rattle.job.specs.declared.Kind.{Kind}
 use Rattle.job.specs.declared.Kind.TheVariants.{System, Basis, Equation}
 use Rattle.job.specs.declared.Refusal.{Refusal}

@@ -2,15 +2,32 @@
 -- say, all say. `LengthsPassed` is the loop's invariant, with its laws: at the start, one length on, at a wrong length,
 -- and at the end.
 -- Assumes nothing.
-use mathlib.Core.Path.{◌≡◌, sym, ap, ◌∙◌}
-use mathlib.Core.Logic.{◌≢◌}
-use mathlib.Core.List.{List, [], map}
-use Prim.Native.Nat.{ℕ, suc, ◌+◌, ◌*◌, ◌≤◌, ◌<◌}
-use native.Mathlib.Numerals.{add-one}
-use native.Mathlib.Omega.{arith}
-use lib.ListN.{length, get_or, drop, drop_of_length-le, length-map, get_or-map}
-use lib.Seq.{drop-cons}
-use Rattle.std.proofs.Common.{Ok, Err}
+use Rattle.std.proofs.Common.{
+  ◌≡◌,
+  sym,
+  ap,
+  ◌∙◌,
+  ◌≢◌,
+  List,
+  [],
+  map,
+  ℕ,
+  suc,
+  ◌+◌,
+  ◌*◌,
+  ◌≤◌,
+  ◌<◌,
+  add-one,
+  arith,
+  length,
+  get_or,
+  drop,
+  drop_of_length-le,
+  drop-cons,
+  Ok,
+  Err,
+}
+use lib.ListN.{length-map, get_or-map}
 use Rattle.job.specs.declared.Refusal.TheVariants.{Length}
 use Rattle.job.specs.Refusal.{Verdict, done, Says, refusal_verdict}
 use Rattle.job.specs.Job.{Handed, cells_of}

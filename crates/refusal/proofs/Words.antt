@@ -2,13 +2,8 @@
 -- what the rules that are left say, all say. `WordsPassed` is the loop's invariant, with its laws: at the start, one
 -- word on, at a word that is p or more, and at the end.
 -- Assumes nothing.
-use mathlib.Core.Path.{◌≡◌}
-use mathlib.Core.List.{List}
-use Prim.Native.Nat.{ℕ, suc, ◌+◌, ◌-◌, ◌≤◌, ◌<◌}
+use Rattle.std.proofs.Common.{◌≡◌, List, ℕ, suc, ◌+◌, ◌-◌, ◌≤◌, ◌<◌, add-one, arith, Ok, Err}
 use native.Mathlib.Nat.{sub-zero}
-use native.Mathlib.Numerals.{add-one}
-use native.Mathlib.Omega.{arith}
-use Rattle.std.proofs.Common.{Ok, Err}
 use Rattle.job.specs.declared.Refusal.TheVariants.{Word}
 use Rattle.job.specs.Refusal.{Verdict, refused, Says, refusal_verdict}
 use Rattle.job.specs.Job.{Handed, word_at}

@@ -1,6 +1,6 @@
 -- `refusal::check` meets its contract: each check speaks where those before it are silent.
 -- Assumes nothing.
-use Rattle.std.proofs.Common.{◌∙◌, ◌∷◌, [], length, Ok, arith}
+use Rattle.std.proofs.Common.{◌∙◌, ◌∷◌, [], length, arith}
 use Rattle.std.proofs.lemmas.Result.{err_from_is_err_and}
 use Rattle.job.specs.Job.{Job, buffers}
 use Rattle.job.specs.Refusal.{Answer}
