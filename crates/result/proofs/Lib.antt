@@ -7,4 +7,3 @@ pub mod Sheets
 pub mod Checks
 pub mod Sizes
 pub mod Unique
-pub mod IsSheet

@@ -1,4 +1,4 @@
--- A verdict as three numbers; what the functions that print ask for and print; what the tests of a writer find.
+-- A verdict as three numbers; what the functions that print ask for and print.
 -- Assumes nothing.
 use Rattle.std.specs.Prelude.{◌≡◌, refl, List, ℕ, ◌+◌, ◌*◌, ◌≤◌, ◌<◌, ◌^◌, ℤ, length, get_or}
 use Rattle.job.specs.declared.Kind.{Kind}
@@ -50,9 +50,3 @@ pub record BasisReady (r n p : ℕ) (y z d : List ℕ) : Type 0 where
   pub exact : length y ≡ r * (r * n)
   pub first : Ready p y 0 (r * (r * n)) d 79 (r * (r * line_room 3 n))
   pub second : Ready p z 0 (r * (r * n)) d (79 + r * (r * line_room 3 n)) (r * (r * line_room 3 n))
-
--- the first word that is p or more is at k, or there is none and k is the length
-pub record FirstOver (p : ℕ) (s : List ℕ) (k : ℕ) : Type 0 where
-  pub within : k ≤ length s
-  pub below : (j : ℕ) → j < k → get_or s j 0 < p
-  pub over : k < length s → p ≤ get_or s k 0

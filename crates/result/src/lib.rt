@@ -1,8 +1,9 @@
-// Result sheets: the writer. And the number and the places that an answer is told by.
+// Result sheets: the writer, which answers with the text's length in bytes. And the number and the places that an
+// answer is told by.
 #![tactic(auto)]
 
 ghost use Rattle.std.specs.Prelude.{◌≡◌, [], ◌∷◌, ◌++◌, ◌+◌, ◌*◌, ◌≤◌, ◌<◌, length};
-ghost use Rattle.job.specs.Refusal.{verdict_of};
+ghost use Rattle.job.specs.Refusal.{refusal_verdict, verdict_of};
 ghost use Rattle.job.specs.declared.Kind.TheVariants.{System, Basis, Equation};
 ghost use Rattle.text.specs.Decimal.{digits, spell};
 ghost use Rattle.text.specs.Class.{balanced};
@@ -12,38 +13,43 @@ ghost use Rattle.lines.specs.Forms.{numbered, row_forms, matrix_forms};
 ghost use Rattle.header.specs.Header.{header, header_form};
 ghost use Rattle.result.specs.ResultSheet.{balanced_form, result_words, result_text};
 ghost use Rattle.result.specs.Print.{places_of, number_at, Ready, line_room, Rows, VectorReady, BasisReady};
-ghost use Rattle.result.specs.Print.{FirstOver};
 ghost use Rattle.result.specs.Write.{WriteOutcome};
 
-use job::{Answer, Kind};
-
-// What a writer of result sheets answers: done, with the text's length in bytes, or why not. `written_verdict` of
-// specs/ gives document 01's number and places for each.
-#[derive(Clone, Copy)]
-pub enum Written {
-    Done { length: usize },
-    Refused(Answer),
-}
+use job::{Kind, Refusal};
 
 // Number, first place and second place.
 #[derive(Clone, Copy)]
-pub struct Places(pub u8, pub u8, pub u32);
+pub struct Places(pub u8, pub usize, pub u32);
 
-// The number and the places of an answer: 0 where not named, and three zeros for done.
-pub fn place(a: Answer) -> Places
+// The number and the places of a refusal: 0 where not named.
+impl From<Refusal> for Places {
+    ghost from_gives = { λ e q. q ≡ places_of (refusal_verdict e) };
+
+    #[tactic(auto, unfolding(crate::specs::Print::places_of, job::specs::Refusal::refusal_verdict))]
+    fn from(refusal: Refusal) -> Places {
+        match refusal {
+            Refusal::Order => Places(1, 0, 0),
+            Refusal::Terms => Places(2, 0, 0),
+            Refusal::Modulus => Places(3, 0, 0),
+            Refusal::TermsOverModulus => Places(4, 0, 0),
+            Refusal::Length { buffer } => Places(5, usize::from(buffer), 0),
+            Refusal::Word { buffer, index } => Places(6, usize::from(buffer), index),
+            Refusal::Singular => Places(7, 0, 0),
+            Refusal::LeadingZero => Places(8, 0, 0),
+            Refusal::Form { line } => Places(9, line, 0),
+            Refusal::Large => Places(10, 0, 0),
+        }
+    }
+}
+
+// The number and the places of an answer: three zeros for done.
+#[tactic(auto, unfolding(crate::specs::Print::places_of))]
+pub fn place(a: Result<(), Refusal>) -> Places
     ensures { result ≡ places_of (verdict_of a) }
 {
     match a {
-        Answer::Done => Places(0, 0, 0),
-        Answer::Order => Places(1, 0, 0),
-        Answer::Terms => Places(2, 0, 0),
-        Answer::Modulus => Places(3, 0, 0),
-        Answer::TermsOverModulus => Places(4, 0, 0),
-        Answer::Length { buffer } => Places(5, buffer, 0),
-        Answer::Word { buffer, index } => Places(6, buffer, index),
-        Answer::Singular => Places(7, 0, 0),
-        Answer::LeadingZero => Places(8, 0, 0),
-        Answer::Large => Places(10, 0, 0),
+        Ok(()) => Places(0, 0, 0),
+        Err(refusal) => Places::from(refusal),
     }
 }
 
@@ -52,12 +58,9 @@ pub fn put_bytes(d: &mut [u8], at: usize, h: &[u8]) -> usize
     requires { at + length h.now ≤ length d.old }
     ensures { Put at h.now d.old d.new result }
 {
-    let mut i = 0;
-    while i < h.len() {
-        d[at + i] = h[i];
-        i += 1;
-    }
-    at + i
+    let end = at + h.len();
+    d[at..end].copy_from_slice(h);
+    end
 }
 
 // A tab and the digits of x.
@@ -97,10 +100,8 @@ fn put_numbers(d: &mut [u8], at: usize, s: &[u32], from: usize, count: usize, p:
         d.old d.new result }
 {
     let mut e = at;
-    let mut k = 0;
-    while k < count {
+    for k in 0..count {
         e = put_class(d, e, s[from + k], p);
-        k += 1;
     }
     text::put_byte(d, e, 10)
 }
@@ -143,10 +144,8 @@ fn put_rows(
         d.old d.new result }
 {
     let mut e = at;
-    let mut i = 0;
-    while i < rows {
+    for i in 0..rows {
         e = put_row(d, e, h, i + 1, s, from + i * count, count, p);
-        i += 1;
     }
     e
 }
@@ -169,11 +168,9 @@ fn put_matrix(
 {
     let step = order * count;
     let mut e = at;
-    let mut i = 0;
-    while i < order {
+    for i in 0..order {
         let h = [word, 9, 49 + i as u8];
         e = put_rows(d, e, &h, order, s, i * step, count, p);
-        i += 1;
     }
     e
 }
@@ -224,20 +221,6 @@ fn put_basis(d: &mut [u8], r: u64, n: u64, p: u64, y: &[u32], z: &[u32]) -> usiz
     put_matrix(d, b, b'Z', order, z, terms, modulus)
 }
 
-// The index of the first word that is p or more, or the length where there is none.
-fn find_over(s: &[u32], p: u32) -> usize
-    ensures { FirstOver p s.now result }
-{
-    let mut k = 0;
-    while k < s.len() {
-        if s[k] >= p {
-            return k;
-        }
-        k += 1;
-    }
-    k
-}
-
 // The writer for y of so many rows.
 fn write_vector(
     kind: Kind,
@@ -247,35 +230,20 @@ fn write_vector(
     p: u64,
     y: &[u32],
     text: &mut [u8],
-) -> Written
+) -> Result<usize, Refusal>
     requires { Rows kind r rows }
     ensures { WriteOutcome (header kind r n p) (y.now ∷ [])
         text.old result text.new }
 {
-    let limits = refusal::check_small(r, n, p);
-    let Answer::Done = limits else {
-        return Written::Refused(limits);
-    };
+    refusal::check_small(r, n, p)?;
     let count = (rows * n) as usize;
-    if y.len() != count {
-        return Written::Refused(Answer::Length { buffer: 1 });
-    }
-    if text.len() != 65536 {
-        return Written::Refused(Answer::Length { buffer: 2 });
-    }
-    let k = find_over(y, p as u32);
-    if k < count {
-        return Written::Refused(Answer::Word {
-            buffer: 1,
-            index: k as u32,
-        });
-    }
-    let length = put_vector(text, kind, rows as usize, r, n, p, y);
-    Written::Done { length }
+    refusal::check_lengths(1, [count, 65536], [y.len(), text.len()])?;
+    refusal::check_buffer(p as u32, 1, y, count)?;
+    Ok(put_vector(text, kind, rows as usize, r, n, p, y))
 }
 
 // The result sheet of a system, y of r rows with n terms each.
-pub fn write_system(r: u64, n: u64, p: u64, y: &[u32], text: &mut [u8]) -> Written
+pub fn write_system(r: u64, n: u64, p: u64, y: &[u32], text: &mut [u8]) -> Result<usize, Refusal>
     ensures { WriteOutcome (header System r n p) (y.now ∷ [])
         text.old result text.new }
 {
@@ -283,7 +251,7 @@ pub fn write_system(r: u64, n: u64, p: u64, y: &[u32], text: &mut [u8]) -> Writt
 }
 
 // The result sheet of an equation, y of n terms.
-pub fn write_equation(r: u64, n: u64, p: u64, y: &[u32], text: &mut [u8]) -> Written
+pub fn write_equation(r: u64, n: u64, p: u64, y: &[u32], text: &mut [u8]) -> Result<usize, Refusal>
     ensures { WriteOutcome (header Equation r n p) (y.now ∷ [])
         text.old result text.new }
 {
@@ -291,38 +259,15 @@ pub fn write_equation(r: u64, n: u64, p: u64, y: &[u32], text: &mut [u8]) -> Wri
 }
 
 // The result sheet of a basis, Y and Z of r rows and columns with n terms each.
-pub fn write_basis(r: u64, n: u64, p: u64, y: &[u32], z: &[u32], text: &mut [u8]) -> Written
+pub fn write_basis(r: u64, n: u64, p: u64, y: &[u32], z: &[u32], text: &mut [u8]) -> Result<usize, Refusal>
     ensures { WriteOutcome (header Basis r n p) (y.now ∷ z.now ∷ [])
         text.old result text.new }
 {
-    let limits = refusal::check_small(r, n, p);
-    let Answer::Done = limits else {
-        return Written::Refused(limits);
-    };
+    refusal::check_small(r, n, p)?;
     let count = (r * r * n) as usize;
-    if y.len() != count {
-        return Written::Refused(Answer::Length { buffer: 1 });
-    }
-    if z.len() != count {
-        return Written::Refused(Answer::Length { buffer: 2 });
-    }
-    if text.len() != 65536 {
-        return Written::Refused(Answer::Length { buffer: 3 });
-    }
-    let k = find_over(y, p as u32);
-    if k < count {
-        return Written::Refused(Answer::Word {
-            buffer: 1,
-            index: k as u32,
-        });
-    }
-    let l = find_over(z, p as u32);
-    if l < count {
-        return Written::Refused(Answer::Word {
-            buffer: 2,
-            index: l as u32,
-        });
-    }
-    let length = put_basis(text, r, n, p, y, z);
-    Written::Done { length }
+    refusal::check_lengths(1, [count, count, 65536], [y.len(), z.len(), text.len()])?;
+    let q = p as u32;
+    refusal::check_buffer(q, 1, y, count)?;
+    refusal::check_buffer(q, 2, z, count)?;
+    Ok(put_basis(text, r, n, p, y, z))
 }

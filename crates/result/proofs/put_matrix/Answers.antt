@@ -1,5 +1,4 @@
 -- `result::put_matrix` meets its contract. The loop's invariant is `MatrixPut`.
--- The measure is what is left of the rows.
 -- Assumes nothing.
 use Prim.Native.Nat.{◌*◌}
 use native.Mathlib.Omega.{arith}
@@ -36,12 +35,6 @@ overflow_mul-i c = omega (arith, (next_row (goal.at.overflow_mul-i c).In-loop-i)
 
 pub put_rows-e-requires : goal.put_rows-e-requires
 put_rows-e-requires c = next_row (goal.at.put_rows-e-requires c).In-loop-i
-
-pub overflow_add-i : goal.overflow_add-i
-overflow_add-i c = omega arith
-
-pub loop-i-smaller : goal.loop-i-smaller
-loop-i-smaller c = omega arith
 
 pub loop-i-preserved : goal.loop-i-preserved
 loop-i-preserved c =

@@ -1,5 +1,4 @@
 -- `result::put_numbers` meets its contract. The loop's invariant is `NumbersPut`.
--- The measure is what is left of the words.
 -- Assumes nothing.
 use Prim.Native.Nat.{◌+◌}
 use native.Mathlib.Omega.{arith}
@@ -22,12 +21,6 @@ pub put_class-e-requires : goal.put_class-e-requires
 put_class-e-requires c =
     let room = numbers_room c.requires c.loop-k.invariant (omega arith) in
     (omega arith, c.requires.below (c.args.from + c.loop-k.k))
-
-pub overflow_add-k : goal.overflow_add-k
-overflow_add-k c = omega arith
-
-pub loop-k-smaller : goal.loop-k-smaller
-loop-k-smaller c = omega arith
 
 pub loop-k-preserved : goal.loop-k-preserved
 loop-k-preserved c =

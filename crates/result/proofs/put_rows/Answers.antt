@@ -1,5 +1,4 @@
 -- `result::put_rows` meets its contract. The loop's invariant is `RowsPut`.
--- The measure is what is left of the rows.
 -- Assumes nothing.
 use Prim.Native.Nat.{◌+◌, ◌*◌}
 use native.Mathlib.Omega.{arith}
@@ -21,9 +20,6 @@ next_row
 next_row c =
     rows_ready c.requires c.loop-i.invariant (omega arith) (omega arith) (omega arith)
 
-pub overflow_add-i : goal.overflow_add-i
-overflow_add-i c = omega arith
-
 pub overflow_mul-i : goal.overflow_mul-i
 overflow_mul-i c = omega (arith, (next_row (goal.at.overflow_mul-i c).In-loop-i).words)
 
@@ -32,9 +28,6 @@ overflow_add-from c = omega (arith, (next_row (goal.at.overflow_add-from c).In-l
 
 pub put_row-e-requires : goal.put_row-e-requires
 put_row-e-requires c = next_row (goal.at.put_row-e-requires c).In-loop-i
-
-pub loop-i-smaller : goal.loop-i-smaller
-loop-i-smaller c = omega arith
 
 pub loop-i-preserved : goal.loop-i-preserved
 loop-i-preserved c =
