@@ -1,7 +1,7 @@
 -- The checks of a writer, one behind the other: 1 to 4 and 10, then 5, and then 6 in each buffer of words. Where none
 -- speaks, the sheet is written.
 -- Assumes nothing.
-use Rattle.std.proofs.Common.{◌≡◌, refl, sym, ap, List, [], ◌∷◌, ◌++◌, ℕ, zero-add, ◌+◌, ◌*◌, ◌<◌, length, Ok, Err, one-mul, arith}
+use Rattle.std.proofs.Common.{◌≡◌, refl, sym, ap, List, [], ◌∷◌, ◌++◌, ℕ, zero-add, ◌*◌, length, Ok, Err, one-mul, arith}
 use Rattle.job.specs.declared.Kind.{Kind}
 use Rattle.job.specs.declared.Kind.TheVariants.{System, Basis, Equation}
 use Rattle.job.specs.declared.Refusal.{Refusal}

@@ -1,12 +1,6 @@
 -- What the limits say of sizes: the words of a result sheet are at most 1024 a buffer, and the text fits 65536 bytes.
 -- Assumes nothing.
-use mathlib.Core.Path.{◌≡◌}
-use mathlib.Core.Logic.{inl, inr}
-use mathlib.Core.List.{List, ◌++◌}
-use Prim.Native.Nat.{ℕ, ◌*◌, ◌≤◌, ◌<◌}
-use native.Mathlib.Nat.{mul_assoc, mul-le-mul, mul-le-mul_right}
-use native.Mathlib.Omega.{arith}
-use lib.ListN.{length, get_or, get_or-eq_default}
+use Rattle.std.proofs.Common.{◌≡◌, List, ◌++◌, ℕ, ◌*◌, ◌≤◌, ◌<◌, mul_assoc, mul-le-mul, mul-le-mul_right, arith, length}
 use Rattle.job.specs.declared.Kind.{Kind}
 use Rattle.job.specs.declared.Kind.TheVariants.{System, Basis, Equation}
 use Rattle.job.specs.Refusal.{done, Says}
@@ -45,9 +39,9 @@ module _ (r n p : ℕ) (passed : Says (limit_rules r n p ++ size_rules bytes r n
   vector_ready kind rows {y} order exact whole silent = record {
     order = order;
     modulus = omega (arith, limits.half);
+    exact = exact;
     ready = record {
       below = words_below positive exact (below_of words p 1 y _ silent);
-      words = omega arith;
       room = omega (arith, rows-sum 1 rows n, rows_few kind rows order);
     };
   }
@@ -64,15 +58,13 @@ module _ (r n p : ℕ) (passed : Says (limit_rules r n p ++ size_rules bytes r n
       record {
         order = limits.order;
         modulus = omega (arith, limits.half);
-        exact = omega arith;
+        exact = (omega arith, omega arith);
         first = record {
           below = words_below positive y-exact (below_of words p 1 y _ y-silent);
-          words = omega arith;
           room = omega arith;
         };
         second = record {
           below = words_below positive z-exact (below_of words p 2 z _ z-silent);
-          words = omega arith;
           room = omega arith;
         };
       }

@@ -93,59 +93,51 @@ fn put_class(d: &mut [u8], at: usize, c: u32, p: u32) -> usize
     text::put_number(d, a, text::balance(c, p))
 }
 
-// The numbers of count words from the index `from` on, and the line feed.
-fn put_numbers(d: &mut [u8], at: usize, s: &[u32], from: usize, count: usize, p: u32) -> usize
-    requires { Ready p s.now from count d.old at (22 * count + 1) }
-    ensures { Put at (items (number_at p s.now) from count ++ (10 ∷ []))
+// The numbers of the words s, and the line feed.
+fn put_numbers(d: &mut [u8], at: usize, s: &[u32], p: u32) -> usize
+    requires { Ready p s.now d.old at (22 * length s.now + 1) }
+    ensures { Put at (items (number_at p s.now) 0 (length s.now) ++ (10 ∷ []))
         d.old d.new result }
 {
     let mut e = at;
-    for k in 0..count {
-        e = put_class(d, e, s[from + k], p);
+    for c in s {
+        e = put_class(d, e, *c, p);
     }
     text::put_byte(d, e, 10)
 }
 
-// The line with the head h, the number i, and the numbers of count words from the index `from` on.
-fn put_row(
-    d: &mut [u8],
-    at: usize,
-    h: &[u8],
-    i: usize,
-    s: &[u32],
-    from: usize,
-    count: usize,
-    p: u32,
-) -> usize
-    requires { Ready p s.now from count d.old at (line_room (length h.now) count) }
+// The line with the head h, the number i, and the numbers of the words s.
+fn put_row(d: &mut [u8], at: usize, h: &[u8], i: usize, s: &[u32], p: u32) -> usize
+    requires { Ready p s.now d.old at (line_room (length h.now) (length s.now)) }
     ensures { Put at
-        (line (balanced_form p count (numbered h.now i)) (number_at p s.now) from)
+        (line (balanced_form p (length s.now) (numbered h.now i)) (number_at p s.now) 0)
         d.old d.new result }
 {
     let a = put_bytes(d, at, h);
     let b = put_field(d, a, i as u64);
-    put_numbers(d, b, s, from, count, p)
+    put_numbers(d, b, s, p)
 }
 
-// Such lines, one for each row from 1 on.
+// Such lines, one for each row of count words, from 1 on.
 fn put_rows(
     d: &mut [u8],
     at: usize,
     h: &[u8],
     rows: usize,
     s: &[u32],
-    from: usize,
     count: usize,
     p: u32,
 ) -> usize
-    requires { Ready p s.now from (rows * count) d.old at (rows * line_room (length h.now) count) }
+    requires { (length s.now ≡ rows * count)
+        × Ready p s.now d.old at (rows * line_room (length h.now) count) }
     ensures { Put at
-        (lines (row_forms (balanced_form p count) h.now 1 rows) (number_at p s.now) from)
+        (lines (row_forms (balanced_form p count) h.now 1 rows) (number_at p s.now) 0)
         d.old d.new result }
 {
     let mut e = at;
     for i in 0..rows {
-        e = put_row(d, e, h, i + 1, s, from + i * count, count, p);
+        let row = &s[i * count..(i + 1) * count];
+        e = put_row(d, e, h, i + 1, row, p);
     }
     e
 }
@@ -160,8 +152,8 @@ fn put_matrix(
     count: usize,
     p: u32,
 ) -> usize
-    requires { (order ≤ 8)
-        × Ready p s.now 0 (order * (order * count)) d.old at (order * (order * line_room 3 count)) }
+    requires { (order ≤ 8) × (length s.now ≡ order * (order * count))
+        × Ready p s.now d.old at (order * (order * line_room 3 count)) }
     ensures { Put at
         (lines (matrix_forms (balanced_form p count) (word ∷ []) order 1 order) (number_at p s.now) 0)
         d.old d.new result }
@@ -170,7 +162,8 @@ fn put_matrix(
     let mut e = at;
     for i in 0..order {
         let h = [word, 9, 49 + i as u8];
-        e = put_rows(d, e, &h, order, s, i * step, count, p);
+        let row = &s[i * step..(i + 1) * step];
+        e = put_rows(d, e, &h, order, row, count, p);
     }
     e
 }
@@ -204,7 +197,7 @@ fn put_vector(d: &mut [u8], kind: Kind, rows: usize, r: u64, n: u64, p: u64, y: 
         d.old d.new result }
 {
     let a = put_header(d, kind, r, n, p);
-    put_rows(d, a, b"y", rows, y, 0, n as usize, p as u32)
+    put_rows(d, a, b"y", rows, y, n as usize, p as u32)
 }
 
 // The sheet of Y and Z.

@@ -1,10 +1,8 @@
 -- `result::write_vector` meets its contract: each check speaks where those before it are silent, and where all are the
 -- sheet is put.
 -- Assumes nothing.
-use Rattle.std.proofs.Common.{[], ◌∷◌, ◌++◌, ◌*◌, ◌≤◌, Ok, arith}
+use Rattle.std.proofs.Common.{[], ◌∷◌, ◌*◌, ◌≤◌, Ok, arith}
 use Rattle.std.proofs.lemmas.Result.{err_from_is_err_and}
-use Rattle.job.specs.Job.{bytes}
-use Rattle.job.specs.Rules.{limit_rules, size_rules}
 use Rattle.refusal.specs.Checked.{Judged}
 use Rattle.refusal.proofs.Products.{bounded_of}
 use Rattle.header.specs.Header.{header}
