@@ -2,10 +2,12 @@
 #![tactic(auto)]
 
 ghost use Rattle.std.specs.Prelude.{◌≡◌, [], ◌∷◌, ◌+◌, ◌*◌, ◌≤◌, ◌<◌, ◌^◌, length};
+ghost use Rattle.job.specs.declared.Refusal.TheVariants.{Form};
 ghost use Rattle.lines.specs.Forms.{numbered, row_forms, matrix_forms};
 ghost use Rattle.lines.specs.Steps.{form_of, Placed, Field, Headed, Itemed, Ready, Read};
 
 use cursor::Cursor;
+use job::Refusal;
 
 // What follows the head of a line: so many numbers, each from -low to high.
 #[derive(Clone, Copy)]
@@ -19,6 +21,14 @@ pub struct Numbers {
 #[derive(Clone, Copy)]
 pub struct BrokenLine {
     pub line: usize,
+}
+
+impl From<BrokenLine> for Refusal {
+    ghost from_gives = { λ b e. e ≡ Form b.line };
+
+    fn from(broken: BrokenLine) -> Refusal {
+        Refusal::Form { line: broken.line }
+    }
 }
 
 // Where the field that begins at `from` ends.

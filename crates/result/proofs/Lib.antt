@@ -7,3 +7,4 @@ pub mod Sheets
 pub mod Checks
 pub mod Sizes
 pub mod Unique
+pub mod IsSheet
