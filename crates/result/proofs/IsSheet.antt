@@ -1,24 +1,17 @@
 -- What is written is a result sheet, with the header that was given and the numbers of the words, each in its range:
 -- so a reader of result sheets takes it.
 -- Assumes nothing.
-use mathlib.Core.Path.{◌≡◌, refl, sym, ap, subst, ◌∙◌}
-use mathlib.Core.List.{List, [], ◌∷◌, ◌++◌, map, flatten, append-nil}
-use Prim.Native.Nat.{ℕ, zero, suc, ◌+◌, ◌*◌, ◌≤◌, ◌<◌}
-use native.Mathlib.Decide.{ℕ_discrete}
-use native.Mathlib.Omega.{arith}
-use lib.IntN.{ℤ, pos, negsuc}
-use lib.ListN.{length, get_or, take}
-use lib.Seq.{take_at}
+use Rattle.std.proofs.Common.{◌≡◌, refl, sym, ap, subst, ◌∙◌, List, [], ◌∷◌, ◌++◌, map, append-nil, ℕ, zero, suc, ◌+◌, ◌*◌, ◌<◌, arith, ℤ, pos, negsuc, length, get_or, take, take_at, Result, Ok}
+use mathlib.Core.List.{flatten}
 use Rattle.job.specs.declared.Kind.{Kind}
 use Rattle.job.specs.declared.Kind.TheVariants.{System, Basis, Equation}
-use Rattle.std.proofs.Common.{Result, Ok}
 use Rattle.job.specs.declared.Refusal.{Refusal}
 use Rattle.job.specs.Refusal.{Verdict, done, Rule, Says, verdict_of}
-use Rattle.job.specs.Job.{words, bytes, word_at}
+use Rattle.job.specs.Job.{words, bytes}
 use Rattle.job.specs.Rules.{limit_rules, size_rules, length_rules, word_rules, read_rules}
 use Rattle.job.proofs.Accepted.{Limits, length_of_lem, below_of}
 use Rattle.job.proofs.Outcomes.{words_below}
-use Rattle.job.proofs.Says.{says_head, says_tail, says_split}
+use Rattle.job.proofs.Says.{says_tail, says_split}
 use Rattle.text.specs.Class.{Balanced}
 use Rattle.text.specs.Lines.{Within, total, Ranged}
 use Rattle.text.specs.Put.{Put}
@@ -125,7 +118,8 @@ lengths_exact b [] (s ∷ lent) l text e t = absurd (omega arith)
 lengths_exact b (c ∷ ls) [] l text e t = absurd (omega arith)
 lengths_exact b (c ∷ ls) (s ∷ lent) l text e t =
     let rest = lengths_exact (suc b) ls lent l text (omega arith) (says_tail _ _ t) in
-    let k = length_of_lem words b _ _ t 0 (omega arith) (omega arith) in
+    let k : length s ≡ 1 * c =
+    length_of_lem words b (c ∷ (ls ++ (l ∷ []))) (s ∷ (lent ++ (text ∷ []))) t 0 (omega arith) (omega arith) in
     let same : length s ≡ c = omega arith in
     (rw (same, rest.0), rest.1)
 

@@ -145,8 +145,7 @@ module _ {p : ℕ} {s : List ℕ} {order count : ℕ} {d₀ : List ℕ} {at : �
         → (length rows_of ≡ order * count) × Ready p rows_of d e (order * line_room 3 count)
     matrix_ready more below =
         let put = so_far.put in
-        let short = matrix_room p below s ready.below count word order 1 i small (omega arith) 0 in
-        (
+        let short = matrix_room p below s ready.below count word order 1 i small (omega arith) 0 in (
           part_length s _ _ (order * count) matrix_end (matrix_within more),
           record {
             below = part_below s _ _ (order * count) matrix_end (matrix_within more) ready.below;

@@ -252,7 +252,14 @@ pub fn write_equation(r: u64, n: u64, p: u64, y: &[u32], text: &mut [u8]) -> Res
 }
 
 // The result sheet of a basis, Y and Z of r rows and columns with n terms each.
-pub fn write_basis(r: u64, n: u64, p: u64, y: &[u32], z: &[u32], text: &mut [u8]) -> Result<usize, Refusal>
+pub fn write_basis(
+    r: u64,
+    n: u64,
+    p: u64,
+    y: &[u32],
+    z: &[u32],
+    text: &mut [u8],
+) -> Result<usize, Refusal>
     ensures { WriteOutcome (header Basis r n p) (y.now ∷ z.now ∷ [])
         text.old result text.new }
 {
