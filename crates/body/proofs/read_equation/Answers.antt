@@ -22,7 +22,8 @@ use Rattle.body.proofs.read_equation.Goals.{In_ok-right}
 pub read_rows-requires : goal.read_rows-requires
 read_rows-requires c =
     let q = c.requires in
-    let ready = series_ready q (0 + (c.args.r + 1) * c.args.series.count) q.placed refl (omega (arith, equation-one q)) in
+    let places = 0 + (c.args.r + 1) * c.args.series.count in
+    let ready = series_ready q places q.placed refl (omega (arith, equation-one q)) in
     (ready, q.field, omega (arith, q.small.order))
 
 pub returns-in_err-rows : goal.returns-in_err-rows

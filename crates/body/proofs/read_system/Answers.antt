@@ -5,7 +5,19 @@ use Rattle.std.proofs.lemmas.Result.{err_from_is_err_and}
 use Rattle.lines.specs.Steps.{form_of, Passed}
 use Rattle.lines.proofs.Passes.{read_more, broken_first}
 use Rattle.body.specs.JobLines.{job_lines}
-use Rattle.body.proofs.Waits.{fits, entries_asked, series_ready, values_ready, entries_rows, rows, system-one, system_two, system_three, system-rows, system_last}
+use Rattle.body.proofs.Waits.{
+  fits,
+  entries_asked,
+  series_ready,
+  values_ready,
+  entries_rows,
+  rows,
+  system-one,
+  system_two,
+  system_three,
+  system-rows,
+  system_last,
+}
 use Rattle.body.proofs.read_system.Goals as goal
 use Rattle.body.proofs.read_system.Goals.{In_ok-right}
 
