@@ -1,7 +1,8 @@
 -- Line 1: the header's numbers are three numbers behind the fields that lead, so the text decides them, and reading
 -- three numbers there is reading the header.
 -- Assumes nothing.
-use Rattle.std.proofs.Common.{Result, Ok, Err, None, ◌≡◌, refl, sym, ap, subst, ◌∙◌, List, [], ◌∷◌, ◌++◌, append_assoc, append-nil, ℕ, zero, suc, ◌+◌, ◌<◌, arith, ℤ, pos, drop}
+use Rattle.std.proofs.Common.{Result, Ok, Err, None, ◌≡◌, refl, sym, ap, subst, ◌∙◌, List, [], ◌∷◌, ◌++◌}
+use Rattle.std.proofs.Common.{append_assoc, append-nil, ℕ, zero, suc, ◌+◌, ◌<◌, arith, ℤ, pos, drop}
 use Rattle.std.specs.Result.{result_ok}
 use Rattle.std.proofs.lemmas.Option.{none-some}
 use Rattle.job.specs.declared.Kind.{Kind}

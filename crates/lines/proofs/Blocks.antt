@@ -1,6 +1,7 @@
 -- Lines in blocks of the same shape, read one block after the other: the rows of a list, and the rows of a matrix.
 -- Assumes nothing.
-use Rattle.std.proofs.Common.{Result, ◌≡◌, sym, ap, subst, ◌∙◌, List, [], ◌∷◌, ◌++◌, ℕ, zero, suc, ◌+◌, ◌*◌, ◌<◌, ◌≤◌, suc-mul, mul-le-mul_right, add-one, arith, ℤ}
+use Rattle.std.proofs.Common.{Result, ◌≡◌, sym, ap, subst, ◌∙◌, List, [], ◌∷◌, ◌++◌, ℕ, zero, suc, ◌+◌, ◌*◌, ◌<◌, ◌≤◌}
+use Rattle.std.proofs.Common.{suc-mul, mul-le-mul_right, add-one, arith, ℤ}
 use Rattle.std.proofs.Math.Decide.{ℕ_discrete}
 use Rattle.text.specs.Lines.{Form, total}
 use Rattle.cursor.specs.declared.Cursor.{Cursor}
@@ -44,7 +45,8 @@ module _ (n : Numbers) (h : List ℕ) {s : List ℕ} {c : Cursor} {i : ℕ} {old
   module _ (first k : ℕ) where
     pub rows_next
         : {d : Cursor} {mid : List ℤ} → Passed s c (row_forms (form_of n) h first k) i old mid d
-        → (new : List ℤ) (r : Result Cursor BrokenLine) → Read s d (form_of n (numbered h (first + k)) ∷ []) (i + k * n.count) mid new r
+        → (new : List ℤ) (r : Result Cursor BrokenLine)
+        → Read s d (form_of n (numbered h (first + k)) ∷ []) (i + k * n.count) mid new r
         → Read s c (row_forms (form_of n) h first (k + 1)) i old new r
     rows_next p new r q =
         let e = ap (λ (m : ℕ). i + m) (total-rows n.count n.low n.high h first k) in

@@ -1,6 +1,8 @@
 -- The bytes at a place of a text: whether given ones stand there, and where a field stops.
 -- Assumes nothing.
-use Rattle.std.proofs.Common.{◌≡◌, ◌-◌, Bool, true, false, true≢false, subst, take_all, length-drop, drop-drop, ap, sym, ◌∙◌, List, ◌∷◌, ◌++◌, ℕ, suc, ◌+◌, ◌<◌, ◌≤◌, arith, eqb, length, get_or, take, drop, drop-cons}
+use Rattle.std.proofs.Common.{◌≡◌, ◌-◌, Bool, true, false, true≢false, subst, take_all, length-drop, drop-drop, ap}
+use Rattle.std.proofs.Common.{sym, ◌∙◌, List, ◌∷◌, ◌++◌, ℕ, suc, ◌+◌, ◌<◌, ◌≤◌, arith, eqb, length, get_or, take}
+use Rattle.std.proofs.Common.{drop, drop-cons}
 use lib.Pointwise.{pointwise}
 use Rattle.std.proofs.lemmas.Slice.Eq.{starts_is}
 use Rattle.std.proofs.lemmas.Bool.Decides.{Decides-eqb}

@@ -1,7 +1,9 @@
 -- The numbers of a line, read one after the other: `Going` holds of the first j of them, from the start over each next
 -- number to the line feed.
 -- Assumes nothing.
-use Rattle.std.proofs.Common.{Some, None, ◌≡◌, refl, sym, ap, ◌∙◌, List, [], ◌∷◌, ◌++◌, append_assoc, ℕ, suc, ◌+◌, ◌-◌, ◌<◌, ◌≤◌, arith, add-one, ℤ, pos, length, drop, set, length-set, get_or-set_same, get_or-set_other}
+use Rattle.std.proofs.Common.{Some, None, ◌≡◌, refl, sym, ap, ◌∙◌, List, [], ◌∷◌, ◌++◌, append_assoc, ℕ, suc, ◌+◌}
+use Rattle.std.proofs.Common.{◌-◌, ◌<◌, ◌≤◌, arith, add-one, ℤ, pos, length, drop, set, length-set, get_or-set_same}
+use Rattle.std.proofs.Common.{get_or-set_other}
 use Rattle.std.proofs.Math.Decide.{ℕ_discrete}
 use Rattle.text.specs.Decimal.{spell}
 use Rattle.text.specs.Lines.{Form, Within, items, line}

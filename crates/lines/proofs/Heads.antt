@@ -1,6 +1,7 @@
 -- Given bytes at a cursor, and the place behind them with their tabs counted.
 -- Assumes nothing.
-use Rattle.std.proofs.Common.{◌≡◌, Bool, true, false, cond, refl, ◌≤◌, ◌-◌, ◌==◌, List, ◌∷◌, ◌++◌, ℕ, ◌+◌, arith, length, drop, count_by, length-append, length-drop}
+use Rattle.std.proofs.Common.{◌≡◌, Bool, true, false, cond, refl, ◌≤◌, ◌-◌, ◌==◌, List, ◌∷◌, ◌++◌, ℕ, ◌+◌, arith}
+use Rattle.std.proofs.Common.{length, drop, count_by, length-append, length-drop}
 use Rattle.std.proofs.lemmas.List.Sums.{count_by-le-length}
 use Rattle.std.proofs.lemmas.List.Recursion.{is_count_by}
 use Rattle.cursor.specs.declared.Cursor.{Cursor}

@@ -1,7 +1,11 @@
 -- A tab and a field at a place of a text: the field's bytes are cut from the text in one way, and they spell a number
 -- of the range, or no number of the range stands there.
 -- Assumes nothing.
-use Rattle.std.proofs.Common.{◌≡◌, Some, None, Bool, true, false, cond, not, nat_le, nat_lt, unwrap_or, position, ltb-false, leb-false, leb-true, get_or-drop, length-drop, refl, sym, ap, ◌∙◌, List, [], ◌∷◌, ◌++◌, append-nil, ℕ, suc, ◌+◌, ◌-◌, ◌<◌, ◌≤◌, arith, ℤ, length, get_or, take, drop, take-append-drop, drop_of_length-le, length-drop, drop-drop, get_or-take, get_or-drop, length-take-le}
+use Rattle.std.proofs.Common.{◌≡◌, Some, None, Bool, true, false, cond, not, nat_le, nat_lt, unwrap_or, position}
+use Rattle.std.proofs.Common.{ltb-false, leb-false, leb-true, get_or-drop, length-drop, refl, sym, ap, ◌∙◌, List, []}
+use Rattle.std.proofs.Common.{◌∷◌, ◌++◌, append-nil, ℕ, suc, ◌+◌, ◌-◌, ◌<◌, ◌≤◌, arith, ℤ, length, get_or, take, drop}
+use Rattle.std.proofs.Common.{take-append-drop, drop_of_length-le, length-drop, drop-drop, get_or-take, get_or-drop}
+use Rattle.std.proofs.Common.{length-take-le}
 use Rattle.std.specs.List.{position_or_len}
 use Rattle.std.proofs.lemmas.List.Sums.{prefix_len-le-length, fails_before_first, passes_at_first}
 use Rattle.text.specs.Decimal.{spell}

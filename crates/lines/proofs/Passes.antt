@@ -1,6 +1,7 @@
 -- Lines passed, and the first that is broken: one line; no line; lines behind lines; a line whose head was passed.
 -- Assumes nothing.
-use Rattle.std.proofs.Common.{Result, Ok, Err, ◌≡◌, refl, sym, ap, subst, ◌∙◌, List, [], ◌∷◌, ◌++◌, append_assoc, append-nil, ℕ, suc, ◌+◌, ◌<◌, ◌≤◌, arith, ℤ, length, take, drop, length-append}
+use Rattle.std.proofs.Common.{Result, Ok, Err, ◌≡◌, refl, sym, ap, subst, ◌∙◌, List, [], ◌∷◌, ◌++◌, append_assoc}
+use Rattle.std.proofs.Common.{append-nil, ℕ, suc, ◌+◌, ◌<◌, ◌≤◌, arith, ℤ, length, take, drop, length-append}
 use mathlib.Core.List.{append_cancel_left}
 use Rattle.std.proofs.Math.Seq.{take-append-le, take-append-add}
 use Rattle.text.specs.Lines.{Form, Within, items, line, lines, total, Ranged, Begins}
@@ -155,7 +156,8 @@ broken_first {fs = fs} b gs =
 -- lines read, and then others, whose numbers are stored from the index j on
 pub read_more
     : {s : List ℕ} {c d : Cursor} {fs : List Form} {i : ℕ} {old mid : List ℤ} → Passed s c fs i old mid d
-    → (gs : List Form) (new : List ℤ) (j : ℕ) → i + total fs ≡ j → (r : Result Cursor BrokenLine) → Read s d gs j mid new r
+    → (gs : List Form) (new : List ℤ) (j : ℕ) → i + total fs ≡ j → (r : Result Cursor BrokenLine)
+    → Read s d gs j mid new r
     → Read s c (fs ++ gs) i old new r
 read_more {s} {d = d} {mid = mid} p gs new j e (Ok b) q =
     passed_more p gs new b (subst (λ (k : ℕ). Passed s d gs k mid new b) (sym e) q)
@@ -169,7 +171,8 @@ module _ {s : List ℕ} {c d : Cursor} {h : List ℕ} (p : Past s c h d) (n : Nu
   cut z t = rw e (simp append_assoc)
 
   pub headed_read
-      : (r : Result Cursor BrokenLine) → Read s d (form_of n tail ∷ []) i old new r → Read s c (form_of n whole ∷ []) i old new r
+      : (r : Result Cursor BrokenLine) → Read s d (form_of n tail ∷ []) i old new r
+      → Read s c (form_of n whole ∷ []) i old new r
   headed_read (Ok b) q =
       line_passed s c (form_of n whole) i old new q.kept b q.placed (omega (arith, p.byte, q.order))
       (omega (arith, q.line, p.line)) q.field q.long (one_range q.begins)

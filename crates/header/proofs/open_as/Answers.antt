@@ -17,5 +17,6 @@ returns c =
 
 pub returns-in_err-d : goal.returns-in_err-d
 returns-in_err-d c =
+    let none = sym c.ok.ensures.value ∙ c.in_err-d.was in
     rw c.from_residual.ensures
-    (header-none c.args.s.now _ c.args.lead.now _ _ refl c.read_line.result (sym c.ok.ensures.value ∙ c.in_err-d.was) c.read_line.ensures)
+    (header-none c.args.s.now _ c.args.lead.now _ _ refl c.read_line.result none c.read_line.ensures)

@@ -12,5 +12,6 @@ returns-then-not-starts_with c =
 pub returns : goal.returns
 returns c =
     let n : c.count-tabs.result ≡ count_by (λ b. b == 9) c.args.h.now = search rules in
-    let text = goes_on c.args.s.now c.args.h.now c.args.c.byte _ c.starts_with.ensures.value c.if-not-starts_with.false in
+    let starts = c.starts_with.ensures.value in
+    let text = goes_on c.args.s.now c.args.h.now c.args.c.byte _ starts c.if-not-starts_with.false in
     head_past c.args.s.now c.args.c c.args.h.now _ c.requires text n

@@ -26,7 +26,8 @@ returns-then-end-s c =
 pub returns-in_err-x : goal.returns-in_err-x
 returns-in_err-x c =
     let a = c.args in
-    let inside : c.end_field-end.result < length a.s.now = omega (arith, c.if-end-s.false, c.end_field-end.ensures.within) in
+    let inside : c.end_field-end.result < length a.s.now =
+    omega (arith, c.if-end-s.false, c.end_field-end.ensures.within) in
     rw c.from_residual.ensures
     (item_not a.s.now a.c c.end_field-end.result (tab_at (goal.at.returns-in_err-x c).After-end_field-end)
     c.end_field-end.ensures inside a.low a.high c.in_err-x.ensures)
@@ -35,7 +36,8 @@ pub returns : goal.returns
 returns c =
     let a = c.args in
     let x = c.in_ok-x.x in
-    let inside : c.end_field-end.result < length a.s.now = omega (arith, c.if-end-s.false, c.end_field-end.ensures.within) in
+    let inside : c.end_field-end.result < length a.s.now =
+    omega (arith, c.if-end-s.false, c.end_field-end.ensures.within) in
     let number = c.in_ok-x.ensures in
     rw (passes a.low a.high x c.requires.1 c.requires.2 number.1, c.behind_field.ensures)
     (item_is a.s.now a.c c.end_field-end.result (tab_at (goal.at.returns c).After-end_field-end)

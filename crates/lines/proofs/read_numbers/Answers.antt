@@ -36,6 +36,8 @@ returns-then-not-starts_with c =
 
 pub returns : goal.returns
 returns c =
-    let feed = goes_on c.args.s.now (10 ∷ []) c.loop-j.d.byte _ c.starts_with.ensures.value c.if-not-starts_with.false in
+    let s = c.args.s.now in
+    let at = c.loop-j.d.byte in
+    let feed = goes_on s (10 ∷ []) at _ c.starts_with.ensures.value c.if-not-starts_with.false in
     rw c.behind_line.ensures
-    (Going-done c.loop-j.invariant c.loop-j-test.false feed (more_at c.args.s.now c.loop-j.d.byte 10 _ feed) c.requires.placed.line)
+    (Going-done c.loop-j.invariant c.loop-j-test.false feed (more_at s at 10 _ feed) c.requires.placed.line)

@@ -1,7 +1,8 @@
 -- `text::read_natural` meets its contract. The loop's invariant: what is read so far are the digits of n, and whatever
 -- number the whole field writes, the rest of the field takes n there.
 -- Assumes nothing.
-use Rattle.std.proofs.Common.{◌≡◌, ℕ, get_or, ◌*◌, ◌-◌, ◌≤◌, ◌∷◌, refl, ◌∙◌, [], append-nil, suc, ◌<◌, ◌+◌, arith, add-one, length, drop, drop_of_length-le}
+use Rattle.std.proofs.Common.{◌≡◌, ℕ, get_or, ◌*◌, ◌-◌, ◌≤◌, ◌∷◌, refl, ◌∙◌, [], append-nil, suc, ◌<◌, ◌+◌, arith}
+use Rattle.std.proofs.Common.{add-one, length, drop, drop_of_length-le}
 use Rattle.std.proofs.lemmas.Slice.Eq.{starts_is}
 use Rattle.std.proofs.lemmas.Bool.Decides.{Decides-eqb}
 use Rattle.text.specs.Decimal.{digits}
@@ -17,7 +18,12 @@ returns-then-starts_with c = λ x h e.
 
 pub loop-b-init : goal.loop-b-init
 loop-b-init c =
-    record { most = omega arith; none = λ e. refl; read = λ h. absurd (omega arith); goes = λ x e. spelled c.args.f.now x e }
+    record {
+      most = omega arith;
+      none = λ e. refl;
+      read = λ h. absurd (omega arith);
+      goes = λ x e. spelled c.args.f.now x e;
+    }
 
 -- what a number's digits would have at this byte
 next : (c : In-loop-b) (x : ℕ) → c.args.f.now ≡ digits x
@@ -76,5 +82,5 @@ returns c =
     let f = c.args.f.now in
     let l = c.loop-b in
     let none : drop l.b-index f ≡ [] = drop_of_length-le f {i = l.b-index} (omega arith) in
-    rw (c.then_some.ensures, c.is_empty.ensures)
-    (counted f c.args.most l.n (λ h. l.invariant.read (omega arith) ∙ rw none (append-nil (digits l.n))) l.invariant.most)
+    let all : 0 < length f → f ≡ digits l.n = λ h. l.invariant.read (omega arith) ∙ rw none (append-nil (digits l.n)) in
+    rw (c.then_some.ensures, c.is_empty.ensures) (counted f c.args.most l.n all l.invariant.most)

@@ -20,4 +20,5 @@ returns-in_err-n c =
 pub returns-then-n-eq0 : goal.returns-then-n-eq0
 returns-then-n-eq0 c =
     let a = c.args in
-    minus_zero a.f.now a.low a.high _ (minus_at (goal.at.returns-then-n-eq0 c).In-Some) _ c.if-n-eq0.true c.in_ok-n.ensures
+    minus_zero a.f.now a.low a.high _ (minus_at (goal.at.returns-then-n-eq0 c).In-Some) _ c.if-n-eq0.true
+    c.in_ok-n.ensures
