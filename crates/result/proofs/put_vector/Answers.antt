@@ -1,6 +1,6 @@
 -- `result::put_vector` meets its contract: line 1, and the rows behind it.
 -- Assumes nothing.
-use native.Mathlib.Omega.{arith}
+use Rattle.std.proofs.Common.{arith}
 use Rattle.text.proofs.Puts.{put_more, put_as}
 use Rattle.result.proofs.Room.{header_room}
 use Rattle.result.proofs.Turns.{ready_earlier}
@@ -16,7 +16,7 @@ put_rows-requires c =
     let short =
     header_room a.kind a.r a.n a.p c.ranges.r.fits c.ranges.n.fits c.ranges.p.fits in
     let put = c.put_header-a.ensures in
-    ready_earlier c.requires.ready (omega (arith, short, put.end)) put.long
+    (c.requires.exact, ready_earlier c.requires.ready (omega (arith, short, put.end)) put.long)
 
 pub returns : goal.returns
 returns c =
