@@ -1,128 +1,149 @@
 -- The checks of a call one behind the other, handed over as words or as bytes: 1 to 4 and 10, then 5, and what 6 then
--- finds; and last what a call reads from `Shaped`, of what is left of it behind 5.
+-- finds in the buffers that are read.
 -- Assumes nothing.
-use mathlib.Core.Path.{◌≡◌, refl, ap}
-use mathlib.Core.List.{List, [], ◌∷◌, ◌++◌, map}
-use Prim.Native.Nat.{ℕ, ◌*◌, ◌≤◌}
-use native.Mathlib.Nat.{mul-le-mul_left}
-use native.Mathlib.Omega.{arith}
-use lib.ListN.{length, get_or}
+use Rattle.std.proofs.Common.{
+  ◌≡◌,
+  refl,
+  ap,
+  ◌⊎◌,
+  inl,
+  inr,
+  List,
+  [],
+  ◌++◌,
+  map,
+  ℕ,
+  ◌*◌,
+  ◌≤◌,
+  length,
+  get_or,
+  Ok,
+  Err,
+  arith,
+}
 use Rattle.job.specs.declared.Kind.{Kind}
 use Rattle.job.specs.declared.Kind.TheVariants.{System, Basis, Equation}
-use Rattle.job.specs.declared.Answer.{Answer}
-use Rattle.job.specs.declared.Answer.TheVariants.{Done}
-use Rattle.job.specs.Refusal.{Rule}
-use Rattle.job.specs.Job.{Job, Buffers, listed, Handed, cells_of, lengths_of, read_count}
+use Rattle.job.specs.declared.Refusal.{Refusal}
+use Rattle.job.specs.Refusal.{Rule, Answer}
+use Rattle.job.specs.Job.{Job, Buffers, listed, Handed, words, bytes, cells_of, lengths_of, read_count}
 use Rattle.job.specs.Rules.{limit_rules, size_rules, length_rules, word_rules, read_rules, check_rules}
-use Rattle.job.proofs.Says.{OtherThanDone, says_split}
-use Rattle.job.proofs.Accepted.{Limits, limits_of, Sized-of}
-use Rattle.refusal.specs.declared.Left.{Left}
-use Rattle.refusal.specs.declared.Left.TheVariants.{Refused, Reads}
-use Rattle.refusal.specs.Checked.{
-  Judged,
-  job_of,
-  Checked,
-  Measured,
-  Compared,
-  Readable,
-  FirstRefusal,
-  third_read,
-  Limited,
-  ReadsLeft,
-  Shaped,
-}
-use Rattle.refusal.proofs.Judged.{judged_done, judged_next, judged_stop}
+use Rattle.job.proofs.Says.{says_split}
+use Rattle.job.proofs.Accepted.{Limits, Sized, limits_of, Sized-of}
+use Rattle.refusal.specs.Checked.{Judged, Checked, Measured, Compared, Readable}
+use Rattle.refusal.proofs.Judged.{judged_next, judged_stop, judged_last}
 
--- the third buffer is read at most whole
-third_within : (kind : Kind) (count : ℕ) → third_read kind count ≤ count
-third_within System count = omega arith
-third_within Basis count = omega arith
-third_within Equation count = omega arith
+-- a word has at most four cells
+pub cells_few : (h : Handed) → cells_of h ≤ 4
+cells_few words = omega arith
+cells_few bytes = omega arith
 
--- the rules of the words that are read, for every kind those of three buffers
-reads_three
+-- behind those of the first two buffers: the rules of the words of a third buffer s, where it is read
+abbrev third_rules : Handed → ℕ → List ℕ → ℕ → Kind → List Rule
+third_rules h p s count System = word_rules h p 3 s 0 count ++ []
+third_rules h p s count Basis = []
+third_rules h p s count Equation = word_rules h p 3 s 0 count ++ []
+
+-- the rules of the words that are read, buffer by buffer
+reads
     : (h : Handed) (kind : Kind) (r n p : ℕ) (lent : Buffers)
     → let l = lengths_of kind r n in
     read_rules h p 1 (read_count kind) l (listed lent)
-    ≡ read_rules h p 1 3 (get_or l 0 0 ∷ get_or l 1 0 ∷ third_read kind (get_or l 2 0) ∷ [])
-    (lent.one ∷ lent.two ∷ lent.three ∷ [])
-unfolding read_rules word_rules read_count lengths_of
-reads_three h System r n p lent = refl
-reads_three h Basis r n p lent = refl
-reads_three h Equation r n p lent = refl
+    ≡ word_rules h p 1 lent.one 0 (get_or l 0 0)
+    ++ (word_rules h p 2 lent.two 0 (get_or l 1 0) ++ third_rules h p lent.three (get_or l 2 0) kind)
+unfolding read_rules read_count lengths_of
+reads h System r n p lent = refl
+reads h Basis r n p lent = refl
+reads h Equation r n p lent = refl
 
--- the rules of lengths
-abbrev exact : Handed → Kind → ℕ → ℕ → Buffers → List Rule
-exact h kind r n lent = length_rules h 1 (lengths_of kind r n) (listed lent)
+-- 1 to 4 are silent
+pub sizes_known
+    : (h : Handed) {r n p : ℕ} → Judged (limit_rules r n p ++ size_rules h r n) (Ok tt) → Limits r n p
+sizes_known h {r} {n} {p} j = limits_of r n p (says_split (limit_rules r n p) _ j.says).0
 
-module _ {h : Handed} {r n p : ℕ} {a : Answer} (limits : Limited h r n p a) where
-  -- 1 to 4 and 10 refuse
-  pub limits_stop : {kind : Kind} {are : List ℕ} → OtherThanDone a → Shaped h kind r n p are (Refused a)
+module _ (h : Handed) (job : Job) where
+  -- 1 to 4 and 10
+  abbrev sizes : List Rule
+  sizes = limit_rules job.r job.n job.p ++ size_rules h job.r job.n
+
+  -- 5
+  abbrev pub exact : List Rule
+  exact = length_rules h 1 (lengths_of job.kind job.r job.n) (listed job.lent)
+
+  pub sizes_stop : {x : Refusal} → Judged sizes (Err x) → Checked h job (Err x)
   unfolding check_rules
-  limits_stop o = record { left = λ lent e. judged_stop _ (judged_stop _ limits.judged o) o }
+  sizes_stop j = judged_stop _ (judged_stop exact j)
 
-  -- they are silent, and the lengths are compared with those of l, of which b is what is said
-  module _ (passed : a ≡ Done) where
-    pub limits_known : Limits r n p
-    limits_known = limits_of r n p (says_split _ _ (judged_done limits.judged passed)).0
+  -- what is said of the lengths
+  pub lengths_judged
+      : {l : List ℕ} {cells : ℕ} {are : List ℕ} {a : Answer} → Measured job.kind job.r job.n l
+      → Compared cells l are a → cells ≡ cells_of h → are ≡ map length (listed job.lent) → Judged exact a
+  lengths_judged measured compared e f = record {
+    says = rw measured.exact at (compared.says h (listed job.lent) e f);
+  }
 
-    module _ {kind : Kind} {l are : List ℕ} {b : Answer} (measured : Measured kind r n l)
-        (compared : Compared (cells_of h) l are b) where
-      lengths : (lent : Buffers) → are ≡ map length (listed lent) → Judged (exact h kind r n lent) b
-      lengths lent e = record { says = rw measured.exact at (compared.says h (listed lent) refl e) }
+  pub lengths_stop : {x : Refusal} → Judged sizes (Ok tt) → Judged exact (Err x) → Checked h job (Err x)
+  unfolding check_rules
+  lengths_stop silent j = judged_stop _ (judged_next silent j)
 
-      judged : (lent : Buffers) → are ≡ map length (listed lent)
-          → Judged (limit_rules r n p ++ size_rules h r n ++ exact h kind r n lent) b
-      judged lent e = judged_next limits.judged passed (lengths lent e)
+-- 1 to 5 are silent, and these are the lengths in words
+pub record Passed (h : Handed) (job : Job) (l : List ℕ) : Type 0 where
+  pub measured : Measured job.kind job.r job.n l
+  pub small : Judged (sizes h job) (Ok tt)
+  pub long : Judged (exact h job) (Ok tt)
 
-      -- 5 refuses
-      pub lengths_stop : OtherThanDone b → Shaped h kind r n p are (Refused b)
-      unfolding check_rules
-      lengths_stop o = record { left = λ lent e. judged_stop _ (judged lent e) o }
+module _ {h : Handed} {job : Job} {l : List ℕ} (passed : Passed h job l) where
+  -- the words of the buffer at i of the five
+  readable
+      : (i : ℕ) (s : List ℕ) → length s ≡ cells_of h * get_or (lengths_of job.kind job.r job.n) i 0
+      → Readable h (get_or l i 0) s
+  readable i s len =
+      let bound = passed.measured.bounded.within i in
+      let same = ap (λ (m : List ℕ). cells_of h * get_or m i 0) passed.measured.exact in
+      record { few = bound; within = omega arith }
 
-      -- 5 is silent: the words can be read, and what is said of them is the answer
-      module _ (exactly : b ≡ Done) (lent : Buffers) (e : are ≡ map length (listed lent)) where
-        -- some of the words that the buffer at i of the five has
-        readable
-            : (i count : ℕ) (s : List ℕ) → length s ≡ cells_of h * get_or (lengths_of kind r n) i 0
-            → count ≤ get_or l i 0 → Readable h count s
-        readable i count s len part =
-            let bound = measured.bounded.within i in
-            let same = ap (λ (m : List ℕ). cells_of h * get_or m i 0) measured.exact in
-            record { few = omega arith; within = omega (arith, mul-le-mul_left (cells_of h) part) }
+  lengths : Sized h (lengths_of job.kind job.r job.n) job.lent
+  lengths = Sized-of h job.kind job.r job.n job.lent passed.long.says
 
-        reads_left
-            : ReadsLeft h (job_of kind r n p lent) (get_or l 0 0) (get_or l 1 0) (third_read kind (get_or l 2 0))
-        unfolding check_rules
-        reads_left =
-            let sized = Sized-of h kind r n lent (judged_done (lengths lent e) exactly) in
-            let third = third_within kind (get_or l 2 0) in
-            let three = reads_three h kind r n p lent in
-            record {
-              half = limits_known.half;
-              one = readable 0 _ lent.one sized.one (omega arith);
-              two = readable 1 _ lent.two sized.two (omega arith);
-              three = readable 2 _ lent.three sized.three third;
-              checked = λ d j. judged_next (judged lent e) exactly (rw three (rw measured.exact at j));
-            }
+  pub read_one : Readable h (get_or l 0 0) job.lent.one
+  read_one = readable 0 job.lent.one lengths.one
 
-      pub lengths_done
-          : {m : ℕ} → b ≡ Done → m ≡ third_read kind (get_or l 2 0)
-          → Shaped h kind r n p are (Reads (get_or l 0 0) (get_or l 1 0) m)
-      lengths_done exactly third = rw third (record { left = reads_left exactly })
+  pub read_two : Readable h (get_or l 1 0) job.lent.two
+  read_two = readable 1 job.lent.two lengths.two
 
--- what is left of a call on buffers with these lengths
-module _ {h : Handed} {kind : Kind} {r n p : ℕ} {are : List ℕ} {t : Left} (shaped : Shaped h kind r n p are t)
-    (lent : Buffers) (e : are ≡ map length (listed lent)) where
-  pub call_refused : {a : Answer} → t ≡ Refused a → Checked h (job_of kind r n p lent) a
-  call_refused found = rw found at (shaped.left lent e)
+  pub read_three : Readable h (get_or l 2 0) job.lent.three
+  read_three = readable 2 job.lent.three lengths.three
 
-  pub call_reads : {k l m : ℕ} → t ≡ Reads k l m → ReadsLeft h (job_of kind r n p lent) k l m
-  call_reads found = rw found at (shaped.left lent e)
+  -- the rules of the words of each buffer
+  abbrev first : List Rule
+  first = word_rules h job.p 1 job.lent.one 0 (get_or l 0 0)
 
--- the three buffers that are read, and the first refusal of them
-pub call_checked
-    : {h : Handed} {job : Job} {k l m : ℕ} {a b c d : Answer} → ReadsLeft h job k l m → FirstRefusal a b c d
-    → Judged (word_rules h job.p 1 job.lent.one 0 k) a → Judged (word_rules h job.p 2 job.lent.two 0 l) b
-    → Judged (word_rules h job.p 3 job.lent.three 0 m) c → Checked h job d
-call_checked left first one two three = left.checked _ (first.says _ _ _ _ _ _ _ _ one two three)
+  abbrev second : List Rule
+  second = word_rules h job.p 2 job.lent.two 0 (get_or l 1 0)
+
+  abbrev third : List Rule
+  third = word_rules h job.p 3 job.lent.three 0 (get_or l 2 0)
+
+  words_judged
+      : {a : Answer} → Judged (first ++ (second ++ third_rules h job.p job.lent.three (get_or l 2 0) job.kind)) a
+      → Checked h job a
+  unfolding check_rules
+  words_judged j =
+      let same = reads h job.kind job.r job.n job.p job.lent in
+      judged_next (judged_next passed.small passed.long) (rw same (rw passed.measured.exact at j))
+
+  pub first_stop : {x : Refusal} → Judged first (Err x) → Checked h job (Err x)
+  first_stop j = words_judged (judged_stop _ j)
+
+  module _ (one : Judged first (Ok tt)) where
+    pub second_stop : {x : Refusal} → Judged second (Err x) → Checked h job (Err x)
+    second_stop j = words_judged (judged_next one (judged_stop _ j))
+
+    module _ (two : Judged second (Ok tt)) where
+      -- a basis: its third buffer is not read
+      pub two_read : job.kind ≡ Basis → Checked h job (Ok tt)
+      two_read e = words_judged (rw e (judged_next one (judged_last two)))
+
+      pub third_judged
+          : {a : Answer} → (job.kind ≡ System) ⊎ (job.kind ≡ Equation) → Judged third a → Checked h job a
+      third_judged (inl e) j = words_judged (rw e (judged_next one (judged_next two (judged_last j))))
+      third_judged (inr e) j = words_judged (rw e (judged_next one (judged_next two (judged_last j))))

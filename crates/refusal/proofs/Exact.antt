@@ -2,16 +2,34 @@
 -- say, all say. `LengthsPassed` is the loop's invariant, with its laws: at the start, one length on, at a wrong length,
 -- and at the end.
 -- Assumes nothing.
-use mathlib.Core.Path.{◌≡◌, sym, ap, ◌∙◌}
-use mathlib.Core.Logic.{◌≢◌}
-use mathlib.Core.List.{List, [], map}
-use Prim.Native.Nat.{ℕ, suc, ◌+◌, ◌*◌, ◌≤◌, ◌<◌}
-use native.Mathlib.Numerals.{add-one}
-use native.Mathlib.Omega.{arith}
-use lib.ListN.{length, get_or, drop, drop_of_length-le, length-map, get_or-map}
-use lib.Seq.{drop-cons}
-use Rattle.job.specs.declared.Answer.TheVariants.{Done, Length}
-use Rattle.job.specs.Refusal.{Verdict, done, Says, verdict_of}
+use Rattle.std.proofs.Common.{
+  ◌≡◌,
+  sym,
+  ap,
+  ◌∙◌,
+  ◌≢◌,
+  List,
+  [],
+  map,
+  ℕ,
+  suc,
+  ◌+◌,
+  ◌*◌,
+  ◌≤◌,
+  ◌<◌,
+  add-one,
+  arith,
+  length,
+  get_or,
+  drop,
+  drop_of_length-le,
+  drop-cons,
+  Ok,
+  Err,
+}
+use lib.ListN.{length-map, get_or-map}
+use Rattle.job.specs.declared.Refusal.TheVariants.{Length}
+use Rattle.job.specs.Refusal.{Verdict, done, Says, refusal_verdict}
 use Rattle.job.specs.Job.{Handed, cells_of}
 use Rattle.job.specs.Rules.{length_rules}
 use Rattle.job.proofs.Says.{says_none, says_here, says_past}
@@ -50,8 +68,8 @@ module _ {cells : ℕ} {should are : List ℕ} {i : ℕ} (passed : LengthsPassed
 
   pub lengths_wrong
       : i < length should → i < length are → get_or are i 0 ≢ cells * get_or should i 0
-      → Compared cells should are (Length (i + 1))
-  unfolding length_rules verdict_of
+      → Compared cells should are (Err (Length (i + 1)))
+  unfolding length_rules refusal_verdict
   lengths_wrong more there wrong = record {
     says = λ h lent e f.
         let holds : length (get_or lent i []) ≢ cells_of h * get_or should i 0 =
@@ -61,8 +79,8 @@ module _ {cells : ℕ} {should are : List ℕ} {i : ℕ} (passed : LengthsPassed
         (rw (add-one, drop-cons should i 0 more, drop-cons lent i [] long) (says_here _ _ holds));
   }
 
-  pub lengths_all : length should ≤ i → Compared cells should are Done
-  unfolding length_rules verdict_of
+  pub lengths_all : length should ≤ i → Compared cells should are (Ok tt)
+  unfolding length_rules
   lengths_all all = record {
     says = λ h lent e f. passed.rest h lent e f done (rw (drop_of_length-le should all) says_none);
   }

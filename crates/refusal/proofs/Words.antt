@@ -2,14 +2,10 @@
 -- what the rules that are left say, all say. `WordsPassed` is the loop's invariant, with its laws: at the start, one
 -- word on, at a word that is p or more, and at the end.
 -- Assumes nothing.
-use mathlib.Core.Path.{◌≡◌}
-use mathlib.Core.List.{List}
-use Prim.Native.Nat.{ℕ, suc, ◌+◌, ◌-◌, ◌≤◌, ◌<◌}
+use Rattle.std.proofs.Common.{◌≡◌, List, ℕ, suc, ◌+◌, ◌-◌, ◌≤◌, ◌<◌, add-one, arith, Ok, Err}
 use native.Mathlib.Nat.{sub-zero}
-use native.Mathlib.Numerals.{add-one}
-use native.Mathlib.Omega.{arith}
-use Rattle.job.specs.declared.Answer.TheVariants.{Done, Word}
-use Rattle.job.specs.Refusal.{Verdict, refused, Says, verdict_of}
+use Rattle.job.specs.declared.Refusal.TheVariants.{Word}
+use Rattle.job.specs.Refusal.{Verdict, refused, Says, refusal_verdict}
 use Rattle.job.specs.Job.{Handed, word_at}
 use Rattle.job.specs.Rules.{word_rules}
 use Rattle.job.proofs.Says.{says_none, says_here, says_past}
@@ -34,12 +30,12 @@ module _ {h : Handed} {p b : ℕ} {s : List ℕ} {count i : ℕ} (passed : Words
     rest = λ v t. passed.rest v (rw (one_more more) (says_past _ _ v (λ over. omega arith) (rw add-one at t)));
   }
 
-  pub passed_over : i < count → p ≤ word_at h s i → Judged (word_rules h p b s 0 count) (Word b i)
-  unfolding word_rules verdict_of
+  pub passed_over : i < count → p ≤ word_at h s i → Judged (word_rules h p b s 0 count) (Err (Word b i))
+  unfolding word_rules refusal_verdict
   passed_over more over = record { says = passed.rest (refused 6 b i) (rw (one_more more) (says_here _ _ over)) }
 
-  pub passed_all : count ≤ i → Judged (word_rules h p b s 0 count) Done
-  unfolding word_rules verdict_of
+  pub passed_all : count ≤ i → Judged (word_rules h p b s 0 count) (Ok tt)
+  unfolding word_rules
   passed_all all =
       let none : count - i ≡ 0 = omega arith in
       record { says = passed.rest _ (rw none says_none) }

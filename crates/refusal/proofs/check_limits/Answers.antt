@@ -1,60 +1,59 @@
 -- `refusal::check_limits` meets its contract: at each way out the earlier rules are silent, and the next one holds.
 -- Assumes nothing.
-use mathlib.Core.List.{List, [], ◌∷◌}
-use Prim.Native.Nat.{◌<◌}
-use native.Mathlib.Omega.{arith}
-use Rattle.job.specs.Refusal.{Verdict, Rule, rule, Says, verdict_of}
-use Rattle.job.specs.Rules.{Outside, limit_rules}
-use Rattle.job.proofs.Says.{says_none, says_here, says_past}
+use Rattle.std.proofs.Common.{rules, tests}
+use Rattle.refusal.proofs.Limits.{
+  Among,
+  order_wrong,
+  terms_wrong,
+  modulus_outside,
+  modulus_no_prime,
+  terms_over,
+  limits_kept,
+}
 use Rattle.refusal.proofs.check_limits.Goals as goal
-use Rattle.refusal.proofs.check_limits.Goals.{Else-is_no_modulus, Else-is_outside, Else-is_outside-2}
+use Rattle.refusal.proofs.check_limits.Goals.{
+  Else-not-contains,
+  Else-not-contains-2,
+  Else-not-contains-3,
+  then-not-contains-3-via-then-not-contains-3,
+  then-not-contains-3-via-else-not-contains-3+then-not-is_prime,
+}
 
-pub returns-then-is_outside : goal.returns-then-is_outside
-unfolding limit_rules verdict_of
-returns-then-is_outside c = record { says = says_here _ _ (c.is_outside.ensures.yes c.if-is_outside.true) }
+pub returns-then-not-contains : goal.returns-then-not-contains
+returns-then-not-contains c = order_wrong _ _ _ (λ a. search (rules, tests))
 
-past_order
-    : (c : Else-is_outside) (rs : List Rule) (v : Verdict) → Says rs v
-    → Says (rule 1 (Outside 1 8 c.args.r) ∷ rs) v
-past_order c rs v s = says_past _ rs v (c.is_outside.ensures.no c.if-is_outside.false) s
+order : (c : Else-not-contains) → Among 1 8 c.args.r
+order c = search (rules, tests)
 
-pub returns-then-is_outside-2 : goal.returns-then-is_outside-2
-unfolding limit_rules verdict_of
-returns-then-is_outside-2 c =
-    let terms = says_here _ _ (c.is_outside-2.ensures.yes c.if-is_outside-2.true) in
-    record { says = past_order (goal.at.returns-then-is_outside-2 c).Else-is_outside _ _ terms }
+pub returns-then-not-contains-2 : goal.returns-then-not-contains-2
+returns-then-not-contains-2 c =
+    terms_wrong _ _ _ (order (goal.at.returns-then-not-contains-2 c).Else-not-contains) (λ a. search (rules, tests))
 
-past_terms
-    : (c : Else-is_outside-2) (rs : List Rule) (v : Verdict) → Says rs v
-    → let start = c.args in
-    Says (rule 1 (Outside 1 8 start.r) ∷ rule 2 (Outside 1 4096 start.n) ∷ rs) v
-past_terms c rs v s =
-    let inside = c.is_outside-2.ensures.no c.if-is_outside-2.false in
-    past_order (goal.at.Else-is_outside-2 c).Else-is_outside _ v (says_past _ rs v inside s)
+terms : (c : Else-not-contains-2) → Among 1 4096 c.args.n
+terms c = search (rules, tests)
 
-pub returns-then-is_no_modulus : goal.returns-then-is_no_modulus
-unfolding limit_rules verdict_of
-returns-then-is_no_modulus c =
-    let modulus = says_here _ _ (c.is_no_modulus.ensures.yes c.if-is_no_modulus.true) in
-    record { says = past_terms (goal.at.returns-then-is_no_modulus c).Else-is_outside-2 _ _ modulus }
+pub returns-then-not-contains-3 : goal.returns-then-not-contains-3
+returns-then-not-contains-3 c =
+    let at = goal.at.returns-then-not-contains-3 c in
+    let o : Among 1 8 c.args.r = order at.Else-not-contains in
+    let t : Among 1 4096 c.args.n = terms at.Else-not-contains-2 in
+    elim c.then-not-contains-3.branch [
+      | then-not-contains-3-via-then-not-contains-3 w ↦ modulus_outside _ _ _ o t (λ a. search (rules, tests))
+      | then-not-contains-3-via-else-not-contains-3+then-not-is_prime w ↦
+          modulus_no_prime _ _ _ o t (w.is_prime.ensures.no w.if-not-is_prime.true)
+    ]
 
-past_modulus
-    : (c : Else-is_no_modulus) (v : Verdict)
-    → let start = c.args in
-    Says (rule 4 (start.p < start.n) ∷ []) v → Says (limit_rules start.r start.n start.p) v
-unfolding limit_rules
-past_modulus c v s =
-    let modulus = c.is_no_modulus.ensures.no c.if-is_no_modulus.false in
-    past_terms (goal.at.Else-is_no_modulus c).Else-is_outside-2 _ v (says_past _ _ v modulus s)
+range : (c : Else-not-contains-3) → Among 2 2147483647 c.args.p
+range c = search (rules, tests)
 
 pub returns-then-p-n : goal.returns-then-p-n
-unfolding verdict_of
-returns-then-p-n c = record {
-  says = past_modulus (goal.at.returns-then-p-n c).Else-is_no_modulus _ (says_here _ _ c.if-p-n.true);
-}
+returns-then-p-n c =
+    let at = goal.at.returns-then-p-n c in
+    terms_over _ _ _ (order at.Else-not-contains) (terms at.Else-not-contains-2) (range at.Else-not-contains-3)
+    (c.is_prime.ensures.yes c.if-not-is_prime.false) c.if-p-n.true
 
 pub returns : goal.returns
-unfolding verdict_of
-returns c = record {
-  says = past_modulus (goal.at.returns c).Else-is_no_modulus _ (says_past _ _ _ (λ more. omega arith) says_none);
-}
+returns c =
+    let at = goal.at.returns c in
+    limits_kept _ _ _ (order at.Else-not-contains) (terms at.Else-not-contains-2) (range at.Else-not-contains-3)
+    (c.is_prime.ensures.yes c.if-not-is_prime.false) c.if-p-n.false

@@ -1,6 +1,6 @@
 -- `refusal::lengths_of` meets its contract, kind by kind; the products fit by the limits of order and terms.
 -- Assumes nothing.
-use native.Mathlib.Omega.{arith}
+use Rattle.std.proofs.Common.{arith}
 use Rattle.job.specs.Job.{carried, room_of, lengths_of}
 use Rattle.refusal.proofs.Products.{square-small, matrix-small, vector_small, rows-small, measured}
 use Rattle.refusal.proofs.lengths_of.Goals as goal
