@@ -2,7 +2,7 @@
 // Nothing is read before all lengths are known to be right.
 #![tactic(auto)]
 
-ghost use Rattle.std.specs.Prelude.{◌≡◌, refl, List, ℕ, ◌++◌, ◌+◌, ◌*◌, ◌≤◌, length};
+ghost use Rattle.std.specs.Prelude.{◌≡◌, refl, List, ℕ, ◌++◌, ◌+◌, ◌*◌, ◌≤◌, ◌<◌, length};
 ghost use Rattle.job.specs.Job.{buffers, Handed, words, bytes, cells_of, word_at};
 ghost use Rattle.job.specs.Rules.{limit_rules, size_rules, word_rules};
 ghost use Rattle.refusal.specs.Checked.{Judged, job_of, Checked, Bounded, Measured, Compared, Readable};
@@ -56,11 +56,15 @@ pub fn lengths_of(kind: Kind, r: usize, n: usize) -> [usize; 5]
 }
 
 // Refusal 5, of buffers whose words have so many cells: the lengths that should be, and those that are.
-fn check_lengths(cells: usize, should: [usize; 5], are: [usize; 5]) -> Result<(), Refusal>
-    requires { (cells ≤ 4) × Bounded should }
-    ensures { Compared cells should are result }
+pub fn check_lengths<const N: usize>(
+    cells: usize,
+    should: [usize; N],
+    are: [usize; N],
+) -> Result<(), Refusal>
+    requires { (N < 256) × (cells ≤ 4) × Bounded should }
+    ensures { Compared cells should.entry are.entry result }
 {
-    for i in 0..5 {
+    for i in 0..N {
         if are[i] != cells * should[i] {
             return Err(Refusal::Length {
                 buffer: i as u8 + 1,
@@ -80,7 +84,7 @@ pub fn word_at(s: &[u8], k: usize) -> u32
 }
 
 // What a buffer holds, handed over as words, or as bytes, four to a word, low byte first.
-trait Cell {
+pub trait Cell {
     ghost handed: { Handed };
 
     // A buffer's cells as numbers.
@@ -144,7 +148,7 @@ impl Cell for u8 {
 }
 
 // Refusal 6, in the buffer with the number b, of which count words are read.
-fn check_buffer<C: Cell>(p: u32, b: u8, s: &[C], count: usize) -> Result<(), Refusal>
+pub fn check_buffer<C: Cell>(p: u32, b: u8, s: &[C], count: usize) -> Result<(), Refusal>
     requires { Readable C.handed count (C.seen s.now) }
     ensures { Judged (word_rules C.handed p b (C.seen s.now) 0 count) result }
 {

@@ -39,7 +39,7 @@ pub check_lengths-requires : goal.check_lengths-requires
 check_lengths-requires g c =
     let few = cells_few g.C.Cell.handed in
     let cells = g.met.C.Cell.laws.0 in
-    (omega arith, c.lengths_of-should.ensures.bounded)
+    (omega arith, (omega arith, omega arith, c.lengths_of-should.ensures.bounded))
 
 -- the job that is handed over
 abbrev job : (g : given.Over) → After-CELLS g → Job

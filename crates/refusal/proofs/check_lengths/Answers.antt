@@ -5,20 +5,20 @@ use Rattle.refusal.proofs.Exact.{lengths_start, lengths_next, lengths_wrong, len
 use Rattle.refusal.proofs.check_lengths.Goals as goal
 
 pub loop-i-init : goal.loop-i-init
-loop-i-init c = lengths_start _ _ _
+loop-i-init g c = lengths_start _ _ _
 
 pub overflow_mul-cells : goal.overflow_mul-cells
-overflow_mul-cells c =
+overflow_mul-cells g c =
     let given = c.requires in
-    record { fits = omega (arith, mul-le-mul given.0 (given.1.within c.loop-i.i)) }
+    record { fits = omega (arith, mul-le-mul given.1 (given.2.within c.loop-i.i)) }
 
 pub returns-then-are-i : goal.returns-then-are-i
-returns-then-are-i c =
+returns-then-are-i g c =
     lengths_wrong c.loop-i.invariant (omega arith) (omega arith) c.if-are-i.true
 
 pub loop-i-preserved : goal.loop-i-preserved
-loop-i-preserved c =
+loop-i-preserved g c =
     lengths_next c.loop-i.invariant (omega arith) (omega arith) c.if-are-i.false
 
 pub returns : goal.returns
-returns c = lengths_all c.loop-i.invariant (omega arith)
+returns g c = lengths_all c.loop-i.invariant (omega arith)
