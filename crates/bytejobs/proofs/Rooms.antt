@@ -72,7 +72,6 @@ room_length Equation r n = refl
 module _ {x y z : ℕ} {kind : Kind} {r n : ℕ} {one two three c d : List ℕ} {room : ℕ}
     (sized : Sized x y z kind r n one two three c d room)
   where
-
     -- a work room of at most 1024 words is that of a short job
     pub sized_short : room ≤ 1024 → Sized 128 64 1024 kind r n one two three c d room
     sized_short short =

@@ -160,7 +160,13 @@ fn vector(g: Given, four: &mut [u8], five: &mut [u8]) -> Result<(), Refusal>
         (buffers h.one.now h.two.now h.three.now four.new five.new) }
 {
     let kind = kind_of(g.solver);
-    let lengths = [g.one.len(), g.two.len(), g.three.len(), four.len(), five.len()];
+    let lengths = [
+        g.one.len(),
+        g.two.len(),
+        g.three.len(),
+        four.len(),
+        five.len(),
+    ];
     if !octets::fits(kind, g.r, g.n, lengths) {
         return refusal::check_bytes(kind, g.r, g.n, g.p, g.one, g.two, g.three, four, five);
     }
@@ -192,7 +198,15 @@ fn run_basis(
         (buffers a.now y0.now y.new z.new work.new) }
 {
     let room = work.len() / 4;
-    let given = Given { solver: Solver::BasisNewton, r, n, p, one: a, two: y0, three: y };
+    let given = Given {
+        solver: Solver::BasisNewton,
+        r,
+        n,
+        p,
+        one: a,
+        two: y0,
+        three: y,
+    };
     solve_bytes(given, c, d, room)?;
     octets::encode(c, y);
     octets::encode(d, z);
@@ -245,7 +259,15 @@ pub fn system_halving(
         result
         (buffers a.now b.now v.now y.new work.new) }
 {
-    let given = Given { solver: Solver::SystemHalving, r, n, p, one: a, two: b, three: v };
+    let given = Given {
+        solver: Solver::SystemHalving,
+        r,
+        n,
+        p,
+        one: a,
+        two: b,
+        three: v,
+    };
     vector(given, y, work)
 }
 
@@ -266,7 +288,15 @@ pub fn system_newton(
         result
         (buffers a.now b.now v.now y.new work.new) }
 {
-    let given = Given { solver: Solver::SystemNewton, r, n, p, one: a, two: b, three: v };
+    let given = Given {
+        solver: Solver::SystemNewton,
+        r,
+        n,
+        p,
+        one: a,
+        two: b,
+        three: v,
+    };
     vector(given, y, work)
 }
 
@@ -287,7 +317,15 @@ pub fn equation_halving(
         result
         (buffers a.now b.now start.now y.new work.new) }
 {
-    let given = Given { solver: Solver::EquationHalving, r, n, p, one: a, two: b, three: start };
+    let given = Given {
+        solver: Solver::EquationHalving,
+        r,
+        n,
+        p,
+        one: a,
+        two: b,
+        three: start,
+    };
     vector(given, y, work)
 }
 
@@ -308,6 +346,14 @@ pub fn equation_newton(
         result
         (buffers a.now b.now start.now y.new work.new) }
 {
-    let given = Given { solver: Solver::EquationNewton, r, n, p, one: a, two: b, three: start };
+    let given = Given {
+        solver: Solver::EquationNewton,
+        r,
+        n,
+        p,
+        one: a,
+        two: b,
+        three: start,
+    };
     vector(given, y, work)
 }
