@@ -3,7 +3,6 @@
 use Rattle.std.proofs.Common.{◌≡◌, refl, sym, ap, ◌∙◌, inl, inr, List, ℕ, suc, ◌+◌, ◌-◌, ◌*◌, ◌%◌, ◌<◌, ◌≤◌, zero-add}
 use Rattle.std.proofs.Common.{arith, length, get_or}
 use native.Mathlib.Decide.{ℕ_discrete}
-use lib.ListN.{length-replicate}
 use Rattle.algebra.specs.Meaning.{identity_at, SystemSeries}
 use Rattle.algebra.proofs.Meaning.{system_cong}
 use Rattle.residue.specs.declared.Modulus.{Modulus}

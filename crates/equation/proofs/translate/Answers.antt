@@ -1,15 +1,7 @@
 -- `equation::translate` meets its contract: the ones, the last row and the right side are written one after the other.
 -- Assumes nothing.
 use Rattle.std.proofs.Common.{◌∙◌, ◌+◌, ◌-◌, ◌*◌, ◌≤◌, arith, length}
-use Rattle.equation.proofs.System.{
-  lead_invertible,
-  ones_spread,
-  ones_below,
-  row_inside,
-  row_dividable,
-  side_divisible,
-  translated,
-}
+use Rattle.equation.proofs.System.{ones_spread, ones_below, row_inside, row_dividable, side_divisible, translated}
 use Rattle.equation.proofs.translate.Goals as goal
 use Rattle.equation.proofs.translate.Goals.{After-spread}
 
