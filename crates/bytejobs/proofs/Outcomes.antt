@@ -1,18 +1,14 @@
 -- The outcome of a byte job from the answer of the job on words: a refusal leaves every cell, and a job that is done
 -- has its results encoded and its work room cleared.
 -- Assumes nothing.
-use mathlib.Core.Path.{◌≡◌, refl}
-use mathlib.Core.List.{List, map}
-use Prim.Native.Nat.{ℕ, ◌≤◌, ◌<◌}
-use native.Mathlib.Omega.{arith}
-use lib.ListN.{length}
+use Rattle.std.proofs.Common.{◌≡◌, refl, List, map, ℕ, ◌≤◌, ◌<◌, arith, length}
 use Rattle.room.specs.Room.{Zeros}
 use Rattle.job.specs.declared.Kind.{Kind}
-use Rattle.job.specs.declared.Answer.{Answer}
-use Rattle.job.specs.declared.Answer.TheVariants.{Done}
+use Rattle.std.specs.Prelude.{Ok, Err}
+use Rattle.job.specs.declared.Refusal.{Refusal}
+use Rattle.job.specs.Refusal.{Answer}
 use Rattle.job.specs.Job.{buffers, listed, bytes, read_count}
 use Rattle.job.specs.Outcome.{Outcome}
-use Rattle.job.proofs.Says.{OtherThanDone}
 use Rattle.refusal.specs.Checked.{job_of}
 use Rattle.octets.specs.Octets.{Encoded, Fitting}
 use Rattle.octets.proofs.Carry.{Decoded, outcome_kept, outcome_done}
@@ -32,20 +28,23 @@ module _ {kind : Kind} {r n p : ℕ} {one two three four five c d : List ℕ} {x
       five = answered.five_long;
     }
 
+module _ {kind : Kind} {r n p : ℕ} {one two three four five c d : List ℕ}
+    (fitting : Fitting kind r n (map length (listed (buffers one two three four five))))
+  where
     -- the job on words refused
-    pub answered_refused : OtherThanDone x
-        → Outcome bytes (job_of kind r n p (buffers one two three four five)) x (buffers one two three four five)
-    answered_refused other = outcome_kept decoded answered.outcome other
+    pub answered_refused : {x : Refusal} → Answered kind r n p one two three c d (Err x)
+        → Outcome bytes (job_of kind r n p (buffers one two three four five)) (Err x) (buffers one two three four five)
+    answered_refused answered = outcome_kept (decoded fitting answered) answered.outcome
 
-    module _ (passed : x ≡ Done) {four' five' : List ℕ} (four_long : length four' ≡ length four)
-        (four_is : Encoded d four') (five_long : length five' ≡ length five) (five-is : Zeros five')
+    module _ (answered : Answered kind r n p one two three c d (Ok tt)) {four' five' : List ℕ}
+        (four_long : length four' ≡ length four) (four_is : Encoded d four') (five_long : length five' ≡ length five) (five-is : Zeros five')
       where
         -- the third buffer is only read
         pub vector_done : 2 < read_count kind
-            → Outcome bytes (job_of kind r n p (buffers one two three four five)) Done
+            → Outcome bytes (job_of kind r n p (buffers one two three four five)) (Ok tt)
             (buffers one two three four' five')
         vector_done reads =
-            outcome_done decoded passed answered.outcome
+            outcome_done (decoded fitting answered) answered.outcome
             (record {
               one = refl;
               two = refl;
@@ -59,10 +58,10 @@ module _ {kind : Kind} {r n p : ℕ} {one two three four five c d : List ℕ} {x
 
         -- the third buffer is written too
         pub basis_done : read_count kind ≤ 2 → {three' : List ℕ} → length three' ≡ length three → Encoded c three'
-            → Outcome bytes (job_of kind r n p (buffers one two three four five)) Done
+            → Outcome bytes (job_of kind r n p (buffers one two three four five)) (Ok tt)
             (buffers one two three' four' five')
         basis_done writes three_long three-is =
-            outcome_done decoded passed answered.outcome
+            outcome_done (decoded fitting answered) answered.outcome
             (record {
               one = refl;
               two = refl;

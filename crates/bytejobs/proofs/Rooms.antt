@@ -1,12 +1,8 @@
 -- The rooms of words of a byte job: how long they have to be, by the job's size; that the local arrays are long enough.
 -- Assumes nothing.
-use mathlib.Core.Path.{◌≡◌, refl, ◌∙◌}
-use mathlib.Core.List.{List}
-use Prim.Native.Nat.{ℕ, ◌*◌, ◌/◌, ◌≤◌, ◌<◌}
-use native.Mathlib.Nat as N
-use native.Mathlib.Omega.{arith}
-use lib.ListN.{length, get_or, take, replicate, length-replicate}
-use lib.Seq.{length-take-le}
+use Rattle.std.proofs.Common.{add-mul, mul-le-mul_left, mul-le-mul_right, one-mul, ◌≡◌, refl, List, ℕ, ◌*◌, ◌/◌}
+use Rattle.std.proofs.Common.{◌≤◌, ◌<◌, arith, length, get_or, take, replicate, length-take-le}
+use lib.ListN.{length-replicate}
 use Rattle.job.specs.declared.Kind.{Kind}
 use Rattle.job.specs.declared.Kind.TheVariants.{System, Basis, Equation}
 use Rattle.job.specs.Job.{carried, room_of, lengths_of, read_count}
@@ -19,7 +15,7 @@ use Rattle.bytejobs.specs.declared.Solver.TheVariants.{
   EquationHalving,
   EquationNewton,
 }
-use Rattle.bytejobs.specs.Solvers.{kind_of, read_of, Roomy, Sized, Fitted}
+use Rattle.bytejobs.specs.Solvers.{kind_of, read_of, Sized, Fitted}
 
 -- the words of the buffers of a job of at most the size m
 record Lengths (m : ℕ) (l : List ℕ) : Type 0 where
@@ -31,16 +27,16 @@ record Lengths (m : ℕ) (l : List ℕ) : Type 0 where
 
 module _ {r n m : ℕ} (order : 1 ≤ r) (terms : 1 ≤ n) (within : r * r * n ≤ m) where
   square_of_order : r ≤ r * r
-  square_of_order = omega (arith, N.mul-le-mul_left r order)
+  square_of_order = omega (arith, mul-le-mul_left r order)
 
   matrix_of-square : r * r ≤ r * r * n
-  matrix_of-square = omega (arith, N.mul-le-mul_left (r * r) terms)
+  matrix_of-square = omega (arith, mul-le-mul_left (r * r) terms)
 
   matrix_of_vector : r * n ≤ r * r * n
-  matrix_of_vector = N.mul-le-mul_right n square_of_order
+  matrix_of_vector = mul-le-mul_right n square_of_order
 
   matrix_of-terms : n ≤ r * r * n
-  matrix_of-terms = omega (arith, N.mul-le-mul_right n order, N.one-mul n, matrix_of_vector)
+  matrix_of-terms = omega (arith, mul-le-mul_right n order, one-mul n, matrix_of_vector)
 
   lengths_within : (kind : Kind) → Lengths m (lengths_of kind r n)
   unfolding lengths_of carried room_of
@@ -59,7 +55,7 @@ module _ {r n m : ℕ} (order : 1 ≤ r) (terms : 1 ≤ n) (within : r * r * n �
     five = omega arith;
   }
   lengths_within Equation = record {
-    one = omega (arith, N.add-mul r 1 n, N.one-mul n, matrix_of_vector, matrix_of-terms);
+    one = omega (arith, add-mul r 1 n, one-mul n, matrix_of_vector, matrix_of-terms);
     two = omega (arith, matrix_of-terms);
     three = omega (arith, square_of_order, matrix_of-square);
     four = omega (arith, matrix_of-terms);
@@ -76,17 +72,6 @@ room_length Equation r n = refl
 module _ {x y z : ℕ} {kind : Kind} {r n : ℕ} {one two three c d : List ℕ} {room : ℕ}
     (sized : Sized x y z kind r n one two three c d room)
   where
-    -- parts of longer rooms
-    pub roomy : {a b e : List ℕ} → length a ≡ length one / 4 → length b ≡ length two / 4 → length e ≡ room
-        → Roomy kind r n one two three a b c d e
-    roomy la lb le = record {
-      one_long = omega (arith, sized.one_long);
-      two_long = omega (arith, sized.two_long);
-      three_long = sized.three_long;
-      four_long = sized.four_long;
-      five_long = le ∙ sized.room_is;
-    }
-
     -- a work room of at most 1024 words is that of a short job
     pub sized_short : room ≤ 1024 → Sized 128 64 1024 kind r n one two three c d room
     sized_short short =
@@ -146,12 +131,6 @@ fitted_sized fitted =
       two_within = omega (arith, exact 1 (omega arith), within.two);
       room_within = omega (arith, exact 4 (omega arith), within.five);
     }
-
--- Y and Z have the same length
-pub basis_lengths : {r n : ℕ} {one two three four five c d : List ℕ}
-    → Fitted Basis r n one two three four five c d → length three ≡ length four
-unfolding lengths_of
-basis_lengths fitted = omega (arith, fitted.fitting.exact 2 (omega arith), fitted.fitting.exact 3 (omega arith))
 
 -- the buffers that a solver only reads are those of its kind
 read_count_lem : (solver : Solver) → read_of solver ≡ read_count (kind_of solver)

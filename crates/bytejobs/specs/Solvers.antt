@@ -3,7 +3,7 @@
 use Rattle.std.specs.Prelude.{◌≡◌, refl, List, [], ◌∷◌, ℕ, ◌*◌, ◌≤◌, length, get_or}
 use Rattle.job.specs.declared.Kind.{Kind}
 use Rattle.job.specs.declared.Kind.TheVariants.{System, Basis, Equation}
-use Rattle.job.specs.declared.Answer.{Answer}
+use Rattle.job.specs.Refusal.{Answer}
 use Rattle.job.specs.Job.{Buffers, words, lengths_of}
 use Rattle.job.specs.Outcome.{Outcome}
 use Rattle.refusal.specs.Checked.{job_of}

@@ -3,16 +3,16 @@
 // words are local arrays; a short job gets short ones, so that it does not pay for clearing long ones.
 #![tactic(auto)]
 
-ghost use Rattle.std.specs.Prelude.{◌≡◌, ◌<◌, length};
+ghost use Rattle.std.specs.Prelude.{◌≡◌, ◌≤◌, ◌<◌, length};
 ghost use Rattle.job.specs.declared.Kind.TheVariants.{System, Basis, Equation};
 ghost use Rattle.job.specs.Job.{buffers, words, bytes};
 ghost use Rattle.job.specs.Outcome.{Outcome};
 ghost use Rattle.refusal.specs.Checked.{job_of};
 ghost use Rattle.bytejobs.specs.Solvers.{kind_of, read_of, Roomy, Sized, Fitted, Answered};
 
-use job::{Answer, Kind};
+use job::{Kind, Refusal};
 
-// A job on words: its kind, and the method.
+// A job on words: its kind, and the method. An enum, since each impl of a trait would write out the head of `solve`.
 #[derive(Clone, Copy)]
 enum Solver {
     SystemHalving,
@@ -46,7 +46,7 @@ fn solve(
     c: &mut [u32],
     d: &mut [u32],
     e: &mut [u32],
-) -> Answer
+) -> Result<(), Refusal>
     ensures { Outcome words
         (job_of (kind_of solver) r n p
         (buffers a.now b.now c.old d.old e.old))
@@ -62,176 +62,119 @@ fn solve(
     }
 }
 
-// Decodes the first three buffers into rooms of words, and solves there.
-fn solve_decoded(
+// What is given of a job on bytes: what solves it, its numbers, and the first three buffers.
+#[derive(Clone, Copy)]
+struct Given<'a> {
     solver: Solver,
     r: u64,
     n: u64,
     p: u64,
-    one: &[u8],
-    two: &[u8],
-    three: &[u8],
-    a: &mut [u32],
-    b: &mut [u32],
-    c: &mut [u32],
-    d: &mut [u32],
-    e: &mut [u32],
-) -> Answer
-    requires { Roomy (kind_of solver) r n one.now two.now three.now a.old b.old c.old d.old e.old }
-    ensures { Answered (kind_of solver) r n p one.now two.now three.now
-        c.new d.new result }
-{
-    octets::decode(one, a);
-    octets::decode(two, b);
-    octets::decode(three, c);
-    solve(solver, r, n, p, a, b, c, d, e)
+    one: &'a [u8],
+    two: &'a [u8],
+    three: &'a [u8],
 }
 
-// Solves in the first words of the rooms a, b and e, of which the work room gets `room`.
-fn solve_within(
-    solver: Solver,
-    r: u64,
-    n: u64,
-    p: u64,
-    one: &[u8],
-    two: &[u8],
-    three: &[u8],
+// Decodes the first three buffers into rooms of words, and solves there.
+fn solve_decoded(
+    g: Given,
     a: &mut [u32],
     b: &mut [u32],
     c: &mut [u32],
     d: &mut [u32],
     e: &mut [u32],
-    room: usize,
-) -> Answer
-    requires { Sized (length a.old) (length b.old) (length e.old) (kind_of solver) r n one.now two.now
-        three.now c.old d.old room }
-    ensures { Answered (kind_of solver) r n p one.now two.now three.now
-        c.new d.new result }
+) -> Result<(), Refusal>
+    requires { Roomy (kind_of g.solver) g.r g.n g.one.now g.two.now g.three.now a.old b.old c.old d.old e.old }
+    ensures { let h = g.entry in
+        Answered (kind_of h.solver) h.r h.n h.p h.one.now h.two.now h.three.now c.new d.new result }
 {
-    let k = one.len() / 4;
-    let l = two.len() / 4;
-    solve_decoded(
-        solver,
-        r,
-        n,
-        p,
-        one,
-        two,
-        three,
-        &mut a[..k],
-        &mut b[..l],
-        c,
-        d,
-        &mut e[..room],
-    )
+    octets::decode(g.one, a);
+    octets::decode(g.two, b);
+    octets::decode(g.three, c);
+    solve(g.solver, g.r, g.n, g.p, a, b, c, d, e)
+}
+
+// Solves in rooms of A, B and E words for the first two buffers and the work room, which gets `room`.
+fn solve_within<const A: usize, const B: usize, const E: usize>(
+    g: Given,
+    c: &mut [u32],
+    d: &mut [u32],
+    room: usize,
+) -> Result<(), Refusal>
+    requires { (A ≤ 2048) × (B ≤ 1024) × (E ≤ 16384)
+        × Sized A B E (kind_of g.solver) g.r g.n g.one.now g.two.now g.three.now c.old d.old room }
+    ensures { let h = g.entry in
+        Answered (kind_of h.solver) h.r h.n h.p h.one.now h.two.now h.three.now c.new d.new result }
+{
+    let mut a = [0u32; A];
+    let mut b = [0u32; B];
+    let mut e = [0u32; E];
+    let k = g.one.len() / 4;
+    let l = g.two.len() / 4;
+    solve_decoded(g, &mut a[..k], &mut b[..l], c, d, &mut e[..room])
 }
 
 // Solves in rooms that are not much longer than the job: short ones where r * r * N is at most 64.
-fn solve_bytes(
-    solver: Solver,
-    r: u64,
-    n: u64,
-    p: u64,
-    one: &[u8],
-    two: &[u8],
-    three: &[u8],
-    c: &mut [u32],
-    d: &mut [u32],
-    room: usize,
-) -> Answer
-    requires { Sized 2048 1024 16384 (kind_of solver) r n one.now two.now three.now c.old d.old room }
-    ensures { Answered (kind_of solver) r n p one.now two.now three.now
-        c.new d.new result }
+fn solve_bytes(g: Given, c: &mut [u32], d: &mut [u32], room: usize) -> Result<(), Refusal>
+    requires { Sized 2048 1024 16384 (kind_of g.solver) g.r g.n g.one.now g.two.now g.three.now c.old d.old room }
+    ensures { let h = g.entry in
+        Answered (kind_of h.solver) h.r h.n h.p h.one.now h.two.now h.three.now c.new d.new result }
 {
     if room <= 1024 {
-        let mut a = [0u32; 128];
-        let mut b = [0u32; 64];
-        let mut e = [0u32; 1024];
-        return solve_within(
-            solver, r, n, p, one, two, three, &mut a, &mut b, c, d, &mut e, room,
-        );
+        return solve_within::<128, 64, 1024>(g, c, d, room);
     }
-    let mut a = [0u32; 2048];
-    let mut b = [0u32; 1024];
-    let mut e = [0u32; 16384];
-    solve_within(
-        solver, r, n, p, one, two, three, &mut a, &mut b, c, d, &mut e, room,
-    )
+    solve_within::<2048, 1024, 16384>(g, c, d, room)
 }
 
 // Does a job that fits and whose first three buffers are only read; c and d are rooms of words for buffers 3 and 4.
 fn run_vector(
-    solver: Solver,
-    r: u64,
-    n: u64,
-    p: u64,
-    one: &[u8],
-    two: &[u8],
-    three: &[u8],
+    g: Given,
     four: &mut [u8],
     five: &mut [u8],
     c: &mut [u32],
     d: &mut [u32],
-) -> Answer
-    requires { (2 < read_of solver)
-        × Fitted (kind_of solver) r n one.now two.now three.now four.old five.old c.old d.old }
-    ensures { Outcome bytes
-        (job_of (kind_of solver) r n p
-        (buffers one.now two.now three.now four.old five.old))
+) -> Result<(), Refusal>
+    requires { (2 < read_of g.solver)
+        × Fitted (kind_of g.solver) g.r g.n g.one.now g.two.now g.three.now four.old five.old c.old d.old }
+    ensures { let h = g.entry in
+        Outcome bytes
+        (job_of (kind_of h.solver) h.r h.n h.p
+        (buffers h.one.now h.two.now h.three.now four.old five.old))
         result
-        (buffers one.now two.now three.now four.new five.new) }
+        (buffers h.one.now h.two.now h.three.now four.new five.new) }
 {
     let room = five.len() / 4;
-    let answer = solve_bytes(solver, r, n, p, one, two, three, c, d, room);
-    let Answer::Done = answer else {
-        return answer;
-    };
+    solve_bytes(g, c, d, room)?;
     octets::encode(d, four);
     octets::clear(five);
-    Answer::Done
+    Ok(())
 }
 
 // A job whose first three buffers are only read.
-fn vector(
-    solver: Solver,
-    r: u64,
-    n: u64,
-    p: u64,
-    one: &[u8],
-    two: &[u8],
-    three: &[u8],
-    four: &mut [u8],
-    five: &mut [u8],
-) -> Answer
-    requires { 2 < read_of solver }
-    ensures { Outcome bytes
-        (job_of (kind_of solver) r n p
-        (buffers one.now two.now three.now four.old five.old))
+fn vector(g: Given, four: &mut [u8], five: &mut [u8]) -> Result<(), Refusal>
+    requires { 2 < read_of g.solver }
+    ensures { let h = g.entry in
+        Outcome bytes
+        (job_of (kind_of h.solver) h.r h.n h.p
+        (buffers h.one.now h.two.now h.three.now four.old five.old))
         result
-        (buffers one.now two.now three.now four.new five.new) }
+        (buffers h.one.now h.two.now h.three.now four.new five.new) }
 {
-    let kind = kind_of(solver);
-    let lengths = [one.len(), two.len(), three.len(), four.len(), five.len()];
-    if !octets::fits(kind, r, n, lengths) {
-        return refusal::check_bytes(kind, r, n, p, one, two, three, four, five);
+    let kind = kind_of(g.solver);
+    let lengths = [
+        g.one.len(),
+        g.two.len(),
+        g.three.len(),
+        four.len(),
+        five.len(),
+    ];
+    if !octets::fits(kind, g.r, g.n, lengths) {
+        return refusal::check_bytes(kind, g.r, g.n, g.p, g.one, g.two, g.three, four, five);
     }
     let mut c = [0u32; 8];
     let mut d = [0u32; 1024];
-    let k = three.len() / 4;
+    let k = g.three.len() / 4;
     let l = four.len() / 4;
-    run_vector(
-        solver,
-        r,
-        n,
-        p,
-        one,
-        two,
-        three,
-        four,
-        five,
-        &mut c[..k],
-        &mut d[..l],
-    )
+    run_vector(g, four, five, &mut c[..k], &mut d[..l])
 }
 
 // Does a basis job that fits; c and d are rooms of words for Y and Z.
@@ -246,7 +189,7 @@ fn run_basis(
     work: &mut [u8],
     c: &mut [u32],
     d: &mut [u32],
-) -> Answer
+) -> Result<(), Refusal>
     requires { Fitted Basis r n a.now y0.now y.old z.old work.old c.old d.old }
     ensures { Outcome bytes
         (job_of Basis r n p
@@ -255,14 +198,20 @@ fn run_basis(
         (buffers a.now y0.now y.new z.new work.new) }
 {
     let room = work.len() / 4;
-    let answer = solve_bytes(Solver::BasisNewton, r, n, p, a, y0, y, c, d, room);
-    let Answer::Done = answer else {
-        return answer;
+    let given = Given {
+        solver: Solver::BasisNewton,
+        r,
+        n,
+        p,
+        one: a,
+        two: y0,
+        three: y,
     };
+    solve_bytes(given, c, d, room)?;
     octets::encode(c, y);
     octets::encode(d, z);
     octets::clear(work);
-    Answer::Done
+    Ok(())
 }
 
 // The basis job: a basis and its inverse.
@@ -275,7 +224,7 @@ pub fn basis(
     y: &mut [u8],
     z: &mut [u8],
     work: &mut [u8],
-) -> Answer
+) -> Result<(), Refusal>
     ensures { Outcome bytes
         (job_of Basis r n p
         (buffers a.now y0.now y.old z.old work.old))
@@ -303,14 +252,23 @@ pub fn system_halving(
     v: &[u8],
     y: &mut [u8],
     work: &mut [u8],
-) -> Answer
+) -> Result<(), Refusal>
     ensures { Outcome bytes
         (job_of System r n p
         (buffers a.now b.now v.now y.old work.old))
         result
         (buffers a.now b.now v.now y.new work.new) }
 {
-    vector(Solver::SystemHalving, r, n, p, a, b, v, y, work)
+    let given = Given {
+        solver: Solver::SystemHalving,
+        r,
+        n,
+        p,
+        one: a,
+        two: b,
+        three: v,
+    };
+    vector(given, y, work)
 }
 
 // The system job by Newton.
@@ -323,14 +281,23 @@ pub fn system_newton(
     v: &[u8],
     y: &mut [u8],
     work: &mut [u8],
-) -> Answer
+) -> Result<(), Refusal>
     ensures { Outcome bytes
         (job_of System r n p
         (buffers a.now b.now v.now y.old work.old))
         result
         (buffers a.now b.now v.now y.new work.new) }
 {
-    vector(Solver::SystemNewton, r, n, p, a, b, v, y, work)
+    let given = Given {
+        solver: Solver::SystemNewton,
+        r,
+        n,
+        p,
+        one: a,
+        two: b,
+        three: v,
+    };
+    vector(given, y, work)
 }
 
 // The equation job by halving.
@@ -343,14 +310,23 @@ pub fn equation_halving(
     start: &[u8],
     y: &mut [u8],
     work: &mut [u8],
-) -> Answer
+) -> Result<(), Refusal>
     ensures { Outcome bytes
         (job_of Equation r n p
         (buffers a.now b.now start.now y.old work.old))
         result
         (buffers a.now b.now start.now y.new work.new) }
 {
-    vector(Solver::EquationHalving, r, n, p, a, b, start, y, work)
+    let given = Given {
+        solver: Solver::EquationHalving,
+        r,
+        n,
+        p,
+        one: a,
+        two: b,
+        three: start,
+    };
+    vector(given, y, work)
 }
 
 // The equation job by Newton.
@@ -363,12 +339,21 @@ pub fn equation_newton(
     start: &[u8],
     y: &mut [u8],
     work: &mut [u8],
-) -> Answer
+) -> Result<(), Refusal>
     ensures { Outcome bytes
         (job_of Equation r n p
         (buffers a.now b.now start.now y.old work.old))
         result
         (buffers a.now b.now start.now y.new work.new) }
 {
-    vector(Solver::EquationNewton, r, n, p, a, b, start, y, work)
+    let given = Given {
+        solver: Solver::EquationNewton,
+        r,
+        n,
+        p,
+        one: a,
+        two: b,
+        three: start,
+    };
+    vector(given, y, work)
 }

@@ -2,10 +2,8 @@
 -- so do those of `equation::by_halving` and `equation::by_newton`; and a call has one outcome (job, `outcome_unique`).
 -- So both methods give the same answer and leave the same words in every buffer.
 -- Assumes nothing.
-use mathlib.Core.Path.{◌≡◌, ap}
-use mathlib.Core.List.{List}
-use Prim.Native.Nat.{ℕ}
-use Rattle.job.specs.declared.Answer.{Answer}
+use Rattle.std.proofs.Common.{◌≡◌, ap, List, ℕ}
+use Rattle.job.specs.Refusal.{Answer}
 use Rattle.job.specs.declared.Kind.{Kind}
 use Rattle.job.specs.declared.Kind.TheVariants.{System, Equation}
 use Rattle.job.specs.Job.{Buffers, buffers, words}

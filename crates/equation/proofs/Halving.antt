@@ -1,24 +1,19 @@
 -- An accepted equation, solved by halving: its system in the solver's room, and the first unknown as the series.
 -- Assumes nothing.
-use mathlib.Core.Path.{◌≡◌, refl, sym, ap, ◌∙◌}
-use mathlib.Core.Logic.{inl, inr}
-use mathlib.Core.List.{List}
-use Prim.Native.Nat.{ℕ, suc, ◌+◌, ◌-◌, ◌*◌, ◌%◌, ◌<◌, ◌≤◌}
-use native.Mathlib.Nat.{zero-add, add-zero}
+use Rattle.std.proofs.Common.{◌≡◌, refl, sym, ap, ◌∙◌, inl, List, ℕ, suc, ◌+◌, ◌-◌, ◌*◌, ◌%◌, ◌<◌, ◌≤◌, zero-add}
+use Rattle.std.proofs.Common.{add-zero, arith, get_or}
 use native.Mathlib.Decide.{ℕ_discrete}
-use native.Mathlib.Omega.{arith}
-use lib.ListN.{length, get_or}
 use Rattle.algebra.specs.Meaning.{SystemSeries}
 use Rattle.algebra.proofs.Meaning.{system_cong}
 use Rattle.residue.specs.declared.Modulus.{Modulus}
-use Rattle.room.specs.Room.{words_from, Inside, Put, Zeros}
-use Rattle.matrix.specs.Layout.{Below, Written}
+use Rattle.room.specs.Room.{words_from, Put, Zeros}
+use Rattle.matrix.specs.Layout.{Written}
 use Rattle.matrix.specs.Product.{first_terms}
 use Rattle.newton.specs.Basis.{spread_term}
 use Rattle.halving.specs.Layout.{right_side_of, moved_side, unknown, room_matrix}
-use Rattle.halving.specs.Halving.{Solvable, RowsSolved}
+use Rattle.halving.specs.Halving.{RowsSolved}
 use Rattle.halving.proofs.Rows.{row_end}
-use Rattle.equation.specs.Translation.{matrix_from, side_from, Places, Translated}
+use Rattle.equation.specs.Translation.{matrix_from, side_from, Translated}
 use Rattle.equation.specs.Equation.{Ready, Ran}
 use Rattle.equation.proofs.Places.{place_unique}
 use Rattle.equation.proofs.System.{side_last, side_other}
@@ -40,42 +35,6 @@ module _ {q : Modulus} {r n : ℕ} {a b start work : List ℕ} (given : Ready q 
 
   used : (3 * r + 1) * n + r * r * n ≤ free
   used = omega (arith, rows_inside given)
-
-  pub room_places : {x : ℕ} {w : List ℕ} → length w ≡ length work → x ≤ 1 → Places r n w at ((r - 1) * n + x) free
-  room_places len early =
-      let rows = rows_inside given in
-      let last = last_end in
-      let some = given.terms_least in
-      record {
-        matrix = omega (arith, used, given.room);
-        right_side = omega (arith, given.room);
-        scratch = omega (arith, given.room);
-        matrix_side = record { apart = inr (omega arith) };
-        matrix_scratch = record { apart = inl used };
-        side_scratch = record { apart = inl (omega arith) };
-      }
-
-  -- the row of the first unknown
-  pub answer_inside : {z y : List ℕ} → length z ≡ length work → length y ≡ n → Inside z (r * n) n × Inside y 0 n
-  answer_inside len long =
-      let rows = rows_inside given in
-      (record { within = omega (arith, given.room) }, record { within = omega arith })
-
-  -- residues in a room of that length
-  pub ready_solvable : {w : List ℕ} → length w ≡ length work → Below q.p w → Solvable q r n w
-  ready_solvable len below = record {
-    sized = record {
-      modulus = given.modulus;
-      order_least = given.order_least;
-      order = given.order;
-      terms_least = given.terms_least;
-      terms = given.terms;
-      below = below;
-    };
-    prime = given.prime;
-    few = given.few;
-    room = omega (arith, len, used, given.room);
-  }
 
   -- the room cleared, with the system, with the start, and solved
   module _ {w w₁ w₂ z : List ℕ} (zeros : Zeros w) (system : Translated q.p r n a b at side free w w₁)

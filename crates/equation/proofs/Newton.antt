@@ -1,29 +1,24 @@
 -- An accepted equation, solved by Newton: its system in the solver's room, and the first unknown as the series.
 -- Assumes nothing.
-use mathlib.Core.Path.{◌≡◌, refl, sym, ap, ◌∙◌}
-use mathlib.Core.Logic.{inl, inr}
-use mathlib.Core.List.{List}
-use Prim.Native.Nat.{ℕ, suc, ◌+◌, ◌-◌, ◌*◌, ◌%◌, ◌<◌, ◌≤◌}
-use native.Mathlib.Nat.{zero-add}
+use Rattle.std.proofs.Common.{◌≡◌, refl, sym, ap, ◌∙◌, inl, inr, List, ℕ, suc, ◌+◌, ◌-◌, ◌*◌, ◌%◌, ◌<◌, ◌≤◌, zero-add}
+use Rattle.std.proofs.Common.{arith, length, get_or}
 use native.Mathlib.Decide.{ℕ_discrete}
-use native.Mathlib.Omega.{arith}
-use lib.ListN.{length, get_or, length-replicate}
 use Rattle.algebra.specs.Meaning.{identity_at, SystemSeries}
 use Rattle.algebra.proofs.Meaning.{system_cong}
 use Rattle.residue.specs.declared.Modulus.{Modulus}
-use Rattle.room.specs.Room.{words_from, Inside, Put, Zeros}
+use Rattle.room.specs.Room.{words_from, Put, Zeros}
 use Rattle.matrix.specs.Layout.{Written}
 use Rattle.matrix.specs.Product.{first_terms}
 use Rattle.matrix.proofs.Written.{stride, written_below}
 use Rattle.ladder.specs.Layout.{matrix_of, solution_of, inverse_of, side_of, value_of, answer_of}
 use Rattle.ladder.specs.Newton.{StartsWithOne, Varied}
-use Rattle.newton.specs.Basis.{Spreadable, spread_term}
-use Rattle.newton.proofs.Sizes.{step_least, entry_inside}
+use Rattle.newton.specs.Basis.{spread_term, units}
+use Rattle.newton.proofs.Sizes.{entry_inside}
 use Rattle.newton.proofs.Starts.{left_moved}
-use Rattle.newton.proofs.Units.{diagonal_inside, diagonal_reach, diagonal_ones}
-use Rattle.newton.proofs.Matrices.{units, units-at, units_small}
+use Rattle.newton.proofs.Units.{diagonal_inside, diagonal_ones}
+use Rattle.newton.proofs.Matrices.{units-at, units_small}
 use Rattle.newton.proofs.Solutions.{one-one, vector_place}
-use Rattle.equation.specs.Translation.{matrix_from, side_from, Places, Translated}
+use Rattle.equation.specs.Translation.{matrix_from, side_from, Translated}
 use Rattle.equation.specs.Equation.{Ready, Placed, Ran}
 use Rattle.equation.proofs.Quotients.{companion_same}
 use Rattle.equation.proofs.System.{side_last, side_other}
@@ -44,29 +39,6 @@ module _ {q : Modulus} {r n : ℕ} {a b start work : List ℕ} (given : Ready q 
   -- a row of a vector ends inside its place
   row_inside : {i : ℕ} → i < r → i * n + n ≤ m
   row_inside {i} l = omega (arith, stride n l, rows_inside given)
-
-  -- the identity's ones go wherever two places are
-  pub ones_spread : {x : ℕ} {w : List ℕ} → x + 2 * m ≤ length w → Spreadable r step units 0 x w
-  ones_spread inside = record {
-    terms = step_least r given.terms_least;
-    source = omega (arith, given.order, length-replicate {A = ℕ} 8 1);
-    target = omega (arith, diagonal_reach n given.order_least);
-  }
-
-  -- the matrix at the start of the room, and the right side's last row behind the places of scratch
-  pub room_places : {x : ℕ} {w : List ℕ} → length w ≡ length work → 6 * m ≤ x → x + m ≤ 16 * m
-      → Places r n w 0 (x + (r - 1) * n) (3 * m)
-  room_places len behind inside =
-      let first = row_inside given.order_least in
-      let last : (r - 1) * n + n ≤ m = row_inside (omega (arith, given.order_least)) in
-      record {
-        matrix = omega (arith, given.room);
-        right_side = omega (arith, given.room);
-        scratch = omega (arith, given.room);
-        matrix_side = record { apart = inl (omega arith) };
-        matrix_scratch = record { apart = inl (omega arith) };
-        side_scratch = record { apart = inr (omega arith) };
-      }
 
   -- the room cleared, with the system, with each identity, and with the start
   module _ {w w₁ w₂ w₃ w₄ : List ℕ} (zeros : Zeros w) (system : Translated q.p r n a b 0 side (3 * m) w w₁)
@@ -177,13 +149,6 @@ module _ {q : Modulus} {r n : ℕ} {a b start work : List ℕ} (given : Ready q 
       companion = companion_same matrix_same side_same system.companion;
       starts = start_same;
     }
-
-  -- a row of n words lies in the room wherever a place does
-  pub answer_inside : {x : ℕ} {z y : List ℕ} → length z ≡ length work → length y ≡ n → x + m ≤ 16 * m
-      → Inside z x n × Inside y 0 n
-  answer_inside len long inside =
-      let first = row_inside given.order_least in
-      (record { within = omega (arith, given.room) }, record { within = omega arith })
 
   -- a solved room
   module _ {w₁ z : List ℕ} (system : Placed q r n a b start w₁) (solved : Varied q.p r n (r * r * n) w₁ z) where

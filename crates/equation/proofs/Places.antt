@@ -1,11 +1,8 @@
 -- Where the words of a matrix of series stand: an entry's row, column and power are determined by its place; and a word
 -- is outside a run or one of its words.
 -- Assumes nothing.
-use mathlib.Core.Path.{◌≡◌}
-use mathlib.Core.Logic.{◌⊎◌, inl, inr, ⊎_elim}
-use Prim.Native.Nat.{ℕ, suc, ◌+◌, ◌-◌, ◌*◌, ◌<◌, ◌≤◌}
+use Rattle.std.proofs.Common.{◌≡◌, ◌⊎◌, inl, inr, ⊎_elim, ℕ, suc, ◌+◌, ◌-◌, ◌*◌, ◌<◌, ◌≤◌, arith}
 use native.Mathlib.Decide.{dec_lt}
-use native.Mathlib.Omega.{arith}
 use Rattle.halving.proofs.Rows.{row_end}
 use Rattle.middle.specs.Middle.{Disjoint}
 use Rattle.equation.specs.Translation.{Outside}

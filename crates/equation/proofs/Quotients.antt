@@ -1,13 +1,8 @@
 -- Quotients and systems that stand in a room: the same words are the same quotient and the same system; and a division
 -- leaves residues.
 -- Assumes nothing.
-use mathlib.Core.Path.{◌≡◌, refl, sym, ap, ◌∙◌}
-use mathlib.Core.Logic.{⊎_elim}
-use mathlib.Core.Bool.{Bool}
-use mathlib.Core.List.{List}
-use Prim.Native.Nat.{ℕ, suc, ◌+◌, ◌-◌, ◌*◌, ◌%◌, ◌<◌}
-use native.Mathlib.Omega.{arith}
-use lib.ListN.{get_or}
+use Rattle.std.proofs.Common.{◌≡◌, refl, sym, ap, ◌∙◌, ⊎_elim, Bool, List, ℕ, suc, ◌+◌, ◌-◌, ◌*◌, ◌%◌, ◌<◌, arith}
+use Rattle.std.proofs.Common.{get_or}
 use Rattle.algebra.specs.Companion.{Quotient, Companion}
 use Rattle.division.specs.Division.{Divided}
 use Rattle.division.proofs.Products.{product_cong}

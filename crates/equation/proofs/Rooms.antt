@@ -1,44 +1,20 @@
 -- An accepted equation in the room of whichever solver: in a cleared room it can be translated, and the first unknown
 -- of its solved system is the series that is meant.
 -- Assumes nothing.
-use mathlib.Core.Path.{◌≡◌, refl, sym, ap}
-use mathlib.Core.List.{List}
-use Prim.Native.Nat.{ℕ, ◌+◌, ◌-◌, ◌*◌, ◌%◌, ◌<◌, ◌≤◌}
-use native.Mathlib.Nat.{mul-le-mul}
-use native.Mathlib.Omega.{arith}
-use lib.ListN.{length, get_or}
+use Rattle.std.proofs.Common.{◌≡◌, refl, sym, ap, List, ℕ, ◌+◌, ◌-◌, ◌*◌, ◌%◌, ◌<◌, ◌≤◌, mul-le-mul, arith}
+use Rattle.std.proofs.Common.{get_or}
 use Rattle.algebra.specs.Meaning.{SystemSeries}
 use Rattle.algebra.specs.Companion.{Companion}
 use Rattle.algebra.proofs.Meaning.{equation_cong}
 use Rattle.algebra.proofs.Companion.{equation_of_companion}
 use Rattle.residue.specs.declared.Modulus.{Modulus}
 use Rattle.room.specs.Room.{Zeros}
-use Rattle.newton.specs.Basis.{Spreadable}
 use Rattle.newton.proofs.Sizes.{square_few, size_few, step_few}
 use Rattle.halving.proofs.Rows.{rows-le}
-use Rattle.equation.specs.Translation.{coefficient, Places, Translatable}
+use Rattle.equation.specs.Translation.{coefficient}
 use Rattle.equation.specs.Equation.{Ready, Ran}
 
 module _ {q : Modulus} {r n : ℕ} {a b start work : List ℕ} (given : Ready q r n a b start work) where
-  pub ready_translatable : {w : List ℕ} {at side free : ℕ} → Zeros w → Places r n w at side free
-      → Translatable q r n a b w at side free
-  ready_translatable {at = at} zeros places = record {
-    modulus = given.modulus;
-    prime = given.prime;
-    order_least = given.order_least;
-    order = given.order;
-    terms_least = given.terms_least;
-    terms = given.terms;
-    one = given.one;
-    two = given.two;
-    below_one = given.below_one;
-    below_two = given.below_two;
-    lead = given.lead;
-    places = places;
-    empty = λ x l. zeros.zeros (at + x);
-    below = λ k. rw (zeros.zeros k) given.modulus.some;
-  }
-
   -- the numbers of words fit
   pub sizes
       : (r * r ≤ 64) × (r * n ≤ 32768) × (r * r * n ≤ 262144) × ((r + 1) * n ≤ 36864) × ((r - 1) * n ≤ 32768)
@@ -56,14 +32,6 @@ module _ {q : Modulus} {r n : ℕ} {a b start work : List ℕ} (given : Ready q 
   rows_inside =
       let square : 1 * r ≤ r * r = rows-le r 1 r given.order_least in
       (omega (arith, rows-le r 1 n given.order_least), rows-le (r * r) r n (omega arith))
-
-  -- the start goes into the first words of r rows
-  pub starts_spread : {x : ℕ} {w : List ℕ} → x + r * n ≤ length w → Spreadable r n start 0 x w
-  starts_spread inside = record {
-    terms = given.terms_least;
-    source = omega (arith, given.three);
-    target = inside;
-  }
 
   module _ {m : ℕ → ℕ → ℕ → ℕ} {c u : ℕ → ℕ → ℕ}
       (system : Companion q.p r n (coefficient a n) (λ k. get_or b k 0) m c)

@@ -1,13 +1,8 @@
 -- The last row of the matrix, quotient by quotient.
 -- Assumes nothing.
-use mathlib.Core.Path.{◌≡◌, refl, sym, subst⁻¹, ◌∙◌}
-use mathlib.Core.Logic.{inl, inr}
-use mathlib.Core.Bool.{true}
-use mathlib.Core.List.{List}
-use Prim.Native.Nat.{ℕ, ◌+◌, ◌*◌, ◌<◌, ◌≤◌}
+use Rattle.std.proofs.Common.{◌≡◌, refl, sym, ◌∙◌, inl, inr, true, List, ℕ, ◌+◌, ◌*◌, ◌<◌, ◌≤◌, arith, length}
+use mathlib.Core.Path.{subst⁻¹}
 use native.Mathlib.Decide.{ℕ_discrete}
-use native.Mathlib.Omega.{arith}
-use lib.ListN.{length}
 use Rattle.algebra.specs.Companion.{opposite, Quotient}
 use Rattle.residue.specs.declared.Modulus.{Modulus}
 use Rattle.room.specs.Room.{words_from}
@@ -22,17 +17,6 @@ pub record RowTurn (p r n : ℕ) (a : List ℕ) (row free : ℕ) (w₀ w : List 
   pub within : j ≤ r
   pub len : length w ≡ length w₀
   pub divided : RowDivided p r n a row free j w₀ w
-
-pub row_start : (p r n : ℕ) (a : List ℕ) (row free : ℕ) (w : List ℕ) → RowTurn p r n a row free w w 0
-row_start p r n a row free w = record {
-  within = omega arith;
-  len = refl;
-  divided = record {
-    quotients = λ j l. absurd (omega arith);
-    below = λ b. b;
-    kept = λ x h g. refl;
-  };
-}
 
 module _ {q : Modulus} {lead r n : ℕ} {a w₀ w : List ℕ} {row free j : ℕ} (given : Dividable q lead r n a w₀ row free)
     (t : RowTurn q.p r n a row free w₀ w j) (more : j < r)
@@ -101,7 +85,3 @@ module _ {q : Modulus} {lead r n : ℕ} {a w₀ w : List ℕ} {row free j : ℕ}
                   quotient_same (λ k s. refl) (λ k s. earlier o k (omega arith) s)
                   (t.divided.quotients o (omega arith))
             ]
-
-pub row_done : {p r n : ℕ} {a : List ℕ} {row free j : ℕ} {w₀ w : List ℕ} → RowTurn p r n a row free w₀ w j → r ≤ j
-    → RowDivided p r n a row free r w₀ w
-row_done {r = r} {j = j} t h = let e : j ≡ r = omega (arith, t.within) in rw e at t.divided

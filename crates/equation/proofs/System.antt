@@ -1,15 +1,10 @@
 -- The translation: zeros, the ones in the rows but the last, the quotients of the last row, and the right side are the
 -- equation's system.
 -- Assumes nothing.
-use mathlib.Core.Path.{◌≡◌, refl, sym, ap, ◌∙◌}
-use mathlib.Core.Logic.{◌≢◌, inl, inr}
-use mathlib.Core.Bool.{false, cond}
-use mathlib.Core.List.{List}
-use Prim.Native.Nat.{ℕ, suc, ◌+◌, ◌-◌, ◌*◌, ◌%◌, ◌<◌, ◌≤◌}
-use native.Mathlib.Nat.{zero-add, zero-mod, mul-le-mul}
-use native.Mathlib.Omega.{arith}
-use borrow.Author.Tests.{eq-eqb, ne_eqb}
-use lib.ListN.{length, get_or, length-replicate}
+use Rattle.std.proofs.Common.{◌≡◌, refl, sym, ap, ◌∙◌, ◌≢◌, inl, inr, false, cond, List, ℕ, suc, ◌+◌, ◌-◌, ◌*◌, ◌%◌}
+use Rattle.std.proofs.Common.{◌<◌, ◌≤◌, zero-add, mul-le-mul, arith, eq-eqb, ne_eqb, length, get_or}
+use native.Mathlib.Nat.{zero-mod}
+use lib.ListN.{length-replicate}
 use Rattle.algebra.specs.Companion.{opposite, Quotient}
 use Rattle.residue.specs.declared.Modulus.{Modulus}
 use Rattle.inverse.specs.Inverse.{Invertible, IsInverse}
@@ -18,8 +13,8 @@ use Rattle.matrix.specs.Layout.{Below, Written}
 use Rattle.matrix.specs.Product.{first_terms}
 use Rattle.matrix.proofs.Written.{written_below}
 use Rattle.division.specs.Division.{Divisible, Divided}
-use Rattle.newton.specs.Basis.{Spreadable, spread_term}
-use Rattle.newton.proofs.Matrices.{units, units-at, units_small}
+use Rattle.newton.specs.Basis.{Spreadable, spread_term, units}
+use Rattle.newton.proofs.Matrices.{units-at, units_small}
 use Rattle.halving.proofs.Rows.{row_end}
 use Rattle.halving.proofs.Rest.{entry_end}
 use Rattle.equation.specs.Translation.{

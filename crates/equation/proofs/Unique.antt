@@ -1,13 +1,8 @@
 -- What the translation fixes: two rooms that its statement allows agree in every word.
 -- Assumes nothing.
-use mathlib.Core.Path.{◌≡◌, sym, ◌∙◌}
-use mathlib.Core.Logic.{⊎_elim}
-use mathlib.Core.List.{List}
-use Prim.Native.Nat.{ℕ, zero, suc, ◌+◌, ◌-◌, ◌*◌, ◌/◌, ◌%◌, ◌≤◌, ◌<◌}
-use native.Mathlib.Nat as N
+use Rattle.std.proofs.Common.{add-zero, div-add-mod', div-lt_iff_lt-mul, mod-eq_of_lt, mod-lt, mul-zero, ◌≡◌, sym}
+use Rattle.std.proofs.Common.{◌∙◌, ⊎_elim, List, ℕ, zero, suc, ◌+◌, ◌-◌, ◌*◌, ◌/◌, ◌%◌, ◌≤◌, ◌<◌, arith, get_or}
 use native.Mathlib.Decide.{ℕ_discrete}
-use native.Mathlib.Omega.{arith}
-use lib.ListN.{get_or}
 use Rattle.inverse.specs.Inverse.{IsInverse}
 use Rattle.division.proofs.Unique.{quotient_unique}
 use Rattle.equation.specs.Translation.{matrix_from, Translated}
@@ -20,10 +15,10 @@ module _ {p r n : ℕ} {a b : List ℕ} {at side free lead : ℕ} {w s t : List 
   where
     -- residues that agree modulo p
     word_same : (x : ℕ) → get_or s x 0 % p ≡ get_or t x 0 % p → get_or s x 0 ≡ get_or t x 0
-    word_same x e = sym (N.mod-eq_of_lt (f.below x)) ∙ e ∙ N.mod-eq_of_lt (g.below x)
+    word_same x e = sym (mod-eq_of_lt (f.below x)) ∙ e ∙ mod-eq_of_lt (g.below x)
 
     first : IsInverse p (get_or a (r * n + 0) 0) lead
-    first = rw N.add-zero unit
+    first = rw add-zero unit
 
     entry-same : (k i j : ℕ) → k < n → i < r → j < r → matrix_from s at r n k i j ≡ matrix_from t at r n k i j
     entry-same k i j hk hi hj =
@@ -62,15 +57,15 @@ module _ {p r n : ℕ} {a b : List ℕ} {at side free lead : ℕ} {w s t : List 
     matrix_same : (x : ℕ) → x < r * r * n → get_or s (at + x) 0 ≡ get_or t (at + x) 0
     matrix_same x l =
         let pos : 0 < n = positive n l in
-        let entry : x / n < r * r = (N.div-lt_iff_lt-mul pos).1 l in
-        let outer : x / n * n + x % n ≡ x = N.div-add-mod' x n in
-        let inner : x / n / r * r + x / n % r ≡ x / n = N.div-add-mod' (x / n) r in
-        let same = entry-same (x % n) (x / n / r) (x / n % r) (N.mod-lt x pos) ((N.div-lt_iff_lt-mul some).1 entry)
-        (N.mod-lt (x / n) some) in
+        let entry : x / n < r * r = (div-lt_iff_lt-mul pos).1 l in
+        let outer : x / n * n + x % n ≡ x = div-add-mod' x n in
+        let inner : x / n / r * r + x / n % r ≡ x / n = div-add-mod' (x / n) r in
+        let same = entry-same (x % n) (x / n / r) (x / n % r) (mod-lt x pos) ((div-lt_iff_lt-mul some).1 entry)
+        (mod-lt (x / n) some) in
         rw (inner, outer) at same
       where
         positive : (n : ℕ) → x < r * r * n → 0 < n
-        positive zero h = absurd (omega (arith, N.mul-zero (r * r)))
+        positive zero h = absurd (omega (arith, mul-zero (r * r)))
         positive (suc n) h = omega arith
 
     pub translated_unique : (x : ℕ) → get_or s x 0 ≡ get_or t x 0

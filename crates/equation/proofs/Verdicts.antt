@@ -1,23 +1,18 @@
 -- The verdict on a call and its outcome: the checks and then rule 8; an accepted call has buffers that can be run, and
 -- one that was run is done.
 -- Assumes nothing.
-use mathlib.Core.Path.{◌≡◌, refl, sym, subst, ◌∙◌}
-use mathlib.Core.Logic.{◌≢◌}
-use mathlib.Core.List.{List}
-use Prim.Native.Nat.{ℕ, ◌*◌, ◌<◌, ◌≤◌}
-use native.Mathlib.Nat.{add-zero, mul-le-mul, mul-le-mul_left}
-use native.Mathlib.Omega.{arith}
-use lib.ListN.{length, get_or}
+use Rattle.std.proofs.Common.{◌≡◌, refl, sym, subst, ◌∙◌, ◌≢◌, List, ℕ, ◌*◌, ◌<◌, ◌≤◌, add-zero, mul-le-mul}
+use Rattle.std.proofs.Common.{mul-le-mul_left, arith, length, get_or, Ok, Err}
 use Rattle.residue.specs.declared.Modulus.{Modulus}
 use Rattle.residue.specs.Sums.{SmallModulus, IsModulus}
-use Rattle.job.specs.declared.Answer.{Answer}
-use Rattle.job.specs.declared.Answer.TheVariants.{Done, LeadingZero}
+use Rattle.job.specs.declared.Refusal.{Refusal}
+use Rattle.job.specs.declared.Refusal.TheVariants.{LeadingZero}
 use Rattle.job.specs.declared.Kind.TheVariants.{Equation}
-use Rattle.job.specs.Refusal.{done, Says, verdict_of}
+use Rattle.job.specs.Refusal.{done, Says, refusal_verdict}
 use Rattle.job.specs.Job.{Buffers, buffers, words, word_at, series_at, carried, room_of, lengths_of, read_count}
 use Rattle.job.specs.Rules.{check_rules, kind_rules, call_rules}
 use Rattle.job.specs.Outcome.{Solved, Outcome}
-use Rattle.job.proofs.Says.{says_none, says_here, says_past, says_head, says_split, OtherThanDone}
+use Rattle.job.proofs.Says.{says_none, says_here, says_past, says_head, says_split}
 use Rattle.job.proofs.Accepted.{Accepted, accepted}
 use Rattle.job.proofs.Outcomes.{outcome_done, words_below, words-filled}
 use Rattle.refusal.specs.Checked.{Checked, Judged, job_of}
@@ -34,23 +29,22 @@ module _ (r n p : ℕ) (lent : Buffers) where
   unfolding series_at word_at carried
   lead_place = rw add-zero
 
-  module _ {answer : Answer} (checked : Checked words (job_of Equation r n p lent) answer) where
-    -- the checks refuse
-    pub check_refused : OtherThanDone answer → Judged (call_rules words (job_of Equation r n p lent)) answer
-    unfolding call_rules
-    check_refused other = judged_stop (kind_rules words Equation r n p lent) checked other
+  -- the checks refuse
+  pub check_refused : {x : Refusal} → Checked words (job_of Equation r n p lent) (Err x)
+      → Judged (call_rules words (job_of Equation r n p lent)) (Err x)
+  unfolding call_rules
+  check_refused checked = judged_stop (kind_rules words Equation r n p lent) checked
 
+  module _ (checked : Checked words (job_of Equation r n p lent) (Ok tt)) where
     -- the checks do not, and rule 8 does
-    pub check_zero : answer ≡ Done → lead_of ≡ 0 → Judged (call_rules words (job_of Equation r n p lent)) LeadingZero
-    unfolding call_rules kind_rules verdict_of
-    check_zero e zero =
-        judged_next checked e (record { says = says_here _ _ (lead_place ∙ zero) })
+    pub check_zero : lead_of ≡ 0 → Judged (call_rules words (job_of Equation r n p lent)) (Err LeadingZero)
+    unfolding call_rules kind_rules refusal_verdict
+    check_zero zero = judged_next checked (record { says = says_here _ _ (lead_place ∙ zero) })
 
     -- neither does
-    pub check_done : answer ≡ Done → lead_of ≢ 0 → Judged (call_rules words (job_of Equation r n p lent)) Done
-    unfolding call_rules kind_rules verdict_of
-    check_done e some =
-        judged_next checked e (record { says = says_past _ _ done (λ z. some (sym lead_place ∙ z)) says_none })
+    pub check_done : lead_of ≢ 0 → Judged (call_rules words (job_of Equation r n p lent)) (Ok tt)
+    unfolding call_rules kind_rules
+    check_done some = judged_next checked (record { says = says_past _ _ done (λ z. some (sym lead_place ∙ z)) says_none })
 
 -- an accepted call
 module _ {r n p : ℕ} {a b start y w : List ℕ} (given : Accepted words (job_of Equation r n p (buffers a b start y w)))
@@ -117,7 +111,7 @@ module _ {r n p : ℕ} {a b start y w : List ℕ} (taken : Taken r n p a b start
 
   pub call_done : {q : Modulus} {y' w' : List ℕ} → IsModulus q p → length y' ≡ length y → length w' ≡ length w
       → Ran q.p r n a b start y' w'
-      → Outcome words (job_of Equation r n p (buffers a b start y w)) Done (buffers a b start y' w')
+      → Outcome words (job_of Equation r n p (buffers a b start y w)) (Ok tt) (buffers a b start y' w')
   unfolding Solved carried series_at word_at
   call_done modulus leny lenw h =
       let half = call_accepted.limits.half in

@@ -11,28 +11,18 @@ ghost use Rattle.refusal.specs.Checked.{job_of, Judged};
 ghost use Rattle.equation.specs.Translation.{Dividable, RowDivided, Translatable, Translated};
 ghost use Rattle.equation.specs.Equation.{Ready, Ran, Placed};
 
-use job::{Answer, Kind};
-use residue::Modulus;
+use job::{Kind, Refusal};
+use residue::Shape;
 
 // Writes the quotients of -a_0, .., -a_(r-1) by a_r to the words of w from `row` on, n words for each. `lead` is the
 // inverse of the first coefficient of a_r, and the 3 * n words from `free` on are scratch.
-fn divide_row(
-    q: Modulus,
-    lead: u32,
-    r: usize,
-    n: usize,
-    a: &[u32],
-    w: &mut [u32],
-    row: usize,
-    free: usize,
-)
-    requires { Dividable q lead r n a.now w.old row free }
-    ensures { RowDivided q.p r n a.now row free r w.old w.new }
+fn divide_row(g: Shape, lead: u32, a: &[u32], w: &mut [u32], row: usize, free: usize)
+    requires { Dividable g.q lead g.r g.n a.now w.old row free }
+    ensures { RowDivided g.q.p g.r g.n a.now row free g.r w.old w.new }
 {
-    let mut j = 0;
-    while j < r {
+    let Shape { q, r, n } = g;
+    for j in 0..r {
         division::divide(q, lead, true, a, r * n, a, j * n, n, w, row + j * n, free);
-        j += 1;
     }
 }
 
@@ -40,27 +30,17 @@ fn divide_row(
 // and the last row of its right side, b / a_r, from word `side` on. Row i but the last says that the derivative of the
 // unknown i is the unknown i + 1: its one entry that is not 0 is a 1 in column i + 1. The last row's entries are
 // -a_0 / a_r, .., -a_(r-1) / a_r. The 3 * n words from `free` on are scratch, and are cleared.
-pub fn translate(
-    q: Modulus,
-    r: usize,
-    n: usize,
-    a: &[u32],
-    b: &[u32],
-    w: &mut [u32],
-    at: usize,
-    side: usize,
-    free: usize,
-)
-    requires { Translatable q r n a.now b.now w.old at side free }
-    ensures { Translated q.p r n a.now b.now at side free
+pub fn translate(g: Shape, a: &[u32], b: &[u32], w: &mut [u32], at: usize, side: usize, free: usize)
+    requires { Translatable g.q g.r g.n a.now b.now w.old at side free }
+    ensures { Translated g.q.p g.r g.n a.now b.now at side free
         w.old w.new }
 {
-    let last = r - 1;
+    let last = g.r - 1;
     let ones = [1u32; 8];
-    let lead = inverse::invert(a[r * n], q.p as u32);
-    newton::spread(last, (r + 1) * n, &ones, 0, at + n, w);
-    divide_row(q, lead, r, n, a, w, at + last * r * n, free);
-    division::divide(q, lead, false, a, r * n, b, 0, n, w, side, free);
+    let lead = inverse::invert(a[g.r * g.n], g.q.p as u32);
+    newton::spread(last, (g.r + 1) * g.n, &ones, 0, at + g.n, w);
+    divide_row(g, lead, a, w, at + last * g.r * g.n, free);
+    division::divide(g.q, lead, false, a, g.r * g.n, b, 0, g.n, w, side, free);
 }
 
 // Hands the n words from `from` on over to y, and clears the room that they stand in.
@@ -73,66 +53,57 @@ fn hand_over(n: usize, from: usize, y: &mut [u32], lent: &mut [u32])
     room::clear(lent);
 }
 
-// Solves an accepted equation by halving. The right side's rows are moved by one term in the solver's room, so that
-// the last term of b / a_r, which is not asked for, falls into the place of the first unknown.
-fn run_halving(
-    q: Modulus,
-    r: usize,
-    n: usize,
-    a: &[u32],
-    b: &[u32],
-    start: &[u32],
-    y: &mut [u32],
-    work: &mut [u32],
-)
-    requires { Ready q r n a.now b.now start.now work.old × (length y.old ≡ n) }
-    ensures { Ran q.p r n a.now b.now start.now
-        y.new work.new }
-{
-    let m = r * r * n;
-    room::clear(work);
-    translate(q, r, n, a, b, work, (3 * r + 1) * n, (r - 1) * n + 1, 8 * m);
-    newton::spread(r, n, start, 0, 0, work);
-    halving::solve_rows(q, r, n, work);
-    hand_over(n, r * n, y, work);
+// A way to solve the system of an equation.
+trait Method {
+    // Solves an accepted equation, and leaves the room cleared.
+    fn run(g: Shape, a: &[u32], b: &[u32], start: &[u32], y: &mut [u32], work: &mut [u32])
+        requires { Ready g.q g.r g.n a.now b.now start.now work.old × (length y.old ≡ g.n) }
+        ensures { Ran g.q.p g.r g.n a.now b.now start.now
+            y.new work.new };
+}
+
+// By halving.
+struct ByHalving;
+
+impl Method for ByHalving {
+    // The right side's rows are moved by one term in the solver's room, so that the last term of b / a_r, which is not
+    // asked for, falls into the place of the first unknown.
+    fn run(g: Shape, a: &[u32], b: &[u32], start: &[u32], y: &mut [u32], work: &mut [u32]) {
+        let Shape { r, n, .. } = g;
+        let m = r * r * n;
+        room::clear(work);
+        translate(g, a, b, work, (3 * r + 1) * n, (r - 1) * n + 1, 8 * m);
+        newton::spread(r, n, start, 0, 0, work);
+        halving::solve_rows(g, work);
+        hand_over(n, r * n, y, work);
+    }
 }
 
 // Puts the system of an accepted equation into the room of the Newton solver: its matrix, the identity as the first
 // term of Y and of Z, b / a_r as the last row of the right side, and the start. The translation's scratch starts at
 // the place where the solver makes copies.
-fn place(q: Modulus, r: usize, n: usize, a: &[u32], b: &[u32], start: &[u32], w: &mut [u32])
-    requires { Ready q r n a.now b.now start.now w.old }
-    ensures { Placed q r n a.now b.now start.now w.new }
+fn place(g: Shape, a: &[u32], b: &[u32], start: &[u32], w: &mut [u32])
+    requires { Ready g.q g.r g.n a.now b.now start.now w.old }
+    ensures { Placed g.q g.r g.n a.now b.now start.now w.new }
 {
-    let m = r * r * n;
-    let step = (r + 1) * n;
-    let ones = [1u32; 8];
+    let m = g.r * g.r * g.n;
     room::clear(w);
-    translate(q, r, n, a, b, w, 0, 8 * m + (r - 1) * n, 3 * m);
-    newton::spread(r, step, &ones, 0, m, w);
-    newton::spread(r, step, &ones, 0, 2 * m, w);
-    newton::spread(r, n, start, 0, 9 * m, w);
+    translate(g, a, b, w, 0, 8 * m + (g.r - 1) * g.n, 3 * m);
+    newton::place_identity(g.r, g.n, m, w);
+    newton::place_identity(g.r, g.n, 2 * m, w);
+    newton::spread(g.r, g.n, start, 0, 9 * m, w);
 }
 
-// Solves an accepted equation by Newton.
-fn run_newton(
-    q: Modulus,
-    r: usize,
-    n: usize,
-    a: &[u32],
-    b: &[u32],
-    start: &[u32],
-    y: &mut [u32],
-    work: &mut [u32],
-)
-    requires { Ready q r n a.now b.now start.now work.old × (length y.old ≡ n) }
-    ensures { Ran q.p r n a.now b.now start.now
-        y.new work.new }
-{
-    let m = r * r * n;
-    place(q, r, n, a, b, start, work);
-    ladder::solve_system(q, r, n, work);
-    hand_over(n, 11 * m, y, work);
+// By Newton.
+struct ByNewton;
+
+impl Method for ByNewton {
+    fn run(g: Shape, a: &[u32], b: &[u32], start: &[u32], y: &mut [u32], work: &mut [u32]) {
+        let m = g.r * g.r * g.n;
+        place(g, a, b, start, work);
+        ladder::solve_system(g, work);
+        hand_over(g.n, 11 * m, y, work);
+    }
 }
 
 // Refusals 1 to 6, and 8: the first coefficient of a_r is 0.
@@ -145,35 +116,24 @@ fn check(
     start: &[u32],
     y: &[u32],
     work: &[u32],
-) -> Answer
+) -> Result<(), Refusal>
     ensures { Judged
         (call_rules words
         (job_of Equation r n p
         (buffers a.now b.now start.now y.now work.now)))
         result }
 {
-    let answer = refusal::check_words(Kind::Equation, r, n, p, a, b, start, y, work);
-    let Answer::Done = answer else {
-        return answer;
-    };
+    refusal::check_words(Kind::Equation, r, n, p, a, b, start, y, work)?;
     let order = r as usize;
     let lead = order * (n as usize);
     if a[lead] == 0 {
-        return Answer::LeadingZero;
+        return Err(Refusal::LeadingZero);
     }
-    Answer::Done
-}
-
-// How the system of an equation is solved.
-#[derive(Clone, Copy)]
-enum Method {
-    Halving,
-    Newton,
+    Ok(())
 }
 
 // The equation job by either method.
-fn solve(
-    method: Method,
+fn solve<M: Method>(
     r: u64,
     n: u64,
     p: u64,
@@ -182,23 +142,22 @@ fn solve(
     start: &[u32],
     y: &mut [u32],
     work: &mut [u32],
-) -> Answer
+) -> Result<(), Refusal>
     ensures { Outcome words
         (job_of Equation r n p
         (buffers a.now b.now start.now y.old work.old))
         result
         (buffers a.now b.now start.now y.new work.new) }
 {
-    let answer = check(r, n, p, a, b, start, y, work);
-    let Answer::Done = answer else {
-        return answer;
-    };
+    check(r, n, p, a, b, start, y, work)?;
     let q = residue::make_modulus(p as u32);
-    match method {
-        Method::Halving => run_halving(q, r as usize, n as usize, a, b, start, y, work),
-        Method::Newton => run_newton(q, r as usize, n as usize, a, b, start, y, work),
-    }
-    Answer::Done
+    let g = Shape {
+        q,
+        r: r as usize,
+        n: n as usize,
+    };
+    M::run(g, a, b, start, y, work);
+    Ok(())
 }
 
 // The equation job by halving: a_r y^(r) + .. + a_0 y = b, where y and its derivatives below the r-th start with the
@@ -212,14 +171,14 @@ pub fn by_halving(
     start: &[u32],
     y: &mut [u32],
     work: &mut [u32],
-) -> Answer
+) -> Result<(), Refusal>
     ensures { Outcome words
         (job_of Equation r n p
         (buffers a.now b.now start.now y.old work.old))
         result
         (buffers a.now b.now start.now y.new work.new) }
 {
-    solve(Method::Halving, r, n, p, a, b, start, y, work)
+    solve::<ByHalving>(r, n, p, a, b, start, y, work)
 }
 
 // The equation job by Newton, with the same answer and the same words.
@@ -232,12 +191,12 @@ pub fn by_newton(
     start: &[u32],
     y: &mut [u32],
     work: &mut [u32],
-) -> Answer
+) -> Result<(), Refusal>
     ensures { Outcome words
         (job_of Equation r n p
         (buffers a.now b.now start.now y.old work.old))
         result
         (buffers a.now b.now start.now y.new work.new) }
 {
-    solve(Method::Newton, r, n, p, a, b, start, y, work)
+    solve::<ByNewton>(r, n, p, a, b, start, y, work)
 }

@@ -1,14 +1,9 @@
 -- Y and Z handed over from the room to their buffers.
 -- Assumes nothing.
-use mathlib.Core.Path.{◌≡◌, refl, sym, ap, ◌∙◌}
-use mathlib.Core.List.{List}
-use Prim.Native.Nat.{ℕ, ◌+◌, ◌*◌, ◌%◌, ◌<◌}
-use native.Mathlib.Nat as N
-use native.Mathlib.Omega.{arith}
-use lib.ListN.{length, get_or}
+use Rattle.std.proofs.Common.{zero-add, ◌≡◌, refl, sym, ap, ◌∙◌, List, ℕ, ◌+◌, ◌*◌, ◌%◌, ◌<◌, arith, length, get_or}
 use Rattle.algebra.proofs.Meaning.{basis_cong}
 use Rattle.residue.specs.declared.Modulus.{Modulus}
-use Rattle.room.specs.Room.{words_from, Inside, Put, Zeros}
+use Rattle.room.specs.Room.{words_from, Put, Zeros}
 use Rattle.matrix.specs.Layout.{coef, Below}
 use Rattle.job.specs.Job.{words, word_at, series_at, matrix_at}
 use Rattle.job.proofs.Outcomes.{all_below}
@@ -22,22 +17,14 @@ module _ (r n : ℕ) {l : ℕ} (at : ℕ) (w : List ℕ) {y y' : List ℕ} (size
   unfolding matrix_at series_at word_at
   copied_at k i j h a b =
       let inside : (i * r + j) * n + k < l = omega (arith, entry_inside h a b) in
-      ap (λ x. get_or w x 0) (omega arith) ∙ sym (rw N.zero-add at (put.new ((i * r + j) * n + k) inside))
+      ap (λ x. get_or w x 0) (omega arith) ∙ sym (rw zero-add at (put.new ((i * r + j) * n + k) inside))
 
   copied_below : {p : ℕ} → 0 < p → Below p w → length y ≡ l → length y' ≡ length y → Below p y'
   copied_below some below long same =
-      all_below y' some (same ∙ long) (λ k h. rw (rw N.zero-add at (put.new k h)) (below (at + k)))
+      all_below y' some (same ∙ long) (λ k h. rw (rw zero-add at (put.new k h)) (below (at + k)))
 
 module _ {q : Modulus} {r n l : ℕ} {a y0 s w v : List ℕ} (given : Ready q r n a y0 s w) (size : l ≡ r * r * n)
     (same : length v ≡ length w) where
-  pub solution_inside : {y : List ℕ} → length y ≡ l → Inside v l l × Inside y 0 l
-  solution_inside long =
-      (record { within = omega (arith, given.room) }, record { within = omega arith })
-
-  pub inverse_inside : {z : List ℕ} → length z ≡ l → Inside v (2 * l) l × Inside z 0 l
-  inverse_inside long =
-      (record { within = omega (arith, given.room) }, record { within = omega arith })
-
   pub handed_over : {y z y' z' u : List ℕ} → Found q.p r n a y0 v → length y ≡ l → length z ≡ l
       → length y' ≡ length y → length z' ≡ length z → Put 0 l (words_from v l) y y'
       → Put 0 l (words_from v (2 * l)) z z' → Zeros u → Ran q.p r n a y0 y' z' u

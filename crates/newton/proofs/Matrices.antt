@@ -1,27 +1,18 @@
 -- The room of a system job before b and v are put in: A in its place, and the identity in those of Y and Z.
 -- Assumes nothing.
-use mathlib.Core.Path.{◌≡◌, ap, ◌∙◌}
-use mathlib.Core.Logic.{inr}
-use mathlib.Core.List.{List}
-use Prim.Native.Nat.{ℕ, ◌+◌, ◌*◌, ◌<◌, ◌≤◌}
-use native.Mathlib.Nat as N
-use native.Mathlib.Omega.{arith}
-use lib.ListN.{length, get_or, replicate, length-replicate, get_or-replicate}
-use Rattle.room.specs.Room.{words_from, Inside, Put, Zeros}
+use Rattle.std.proofs.Common.{zero-add, ◌≡◌, ap, ◌∙◌, inr, List, ℕ, ◌+◌, ◌*◌, ◌<◌, ◌≤◌, arith, length, get_or}
+use lib.ListN.{length-replicate, get_or-replicate}
+use Rattle.room.specs.Room.{words_from, Put, Zeros}
 use Rattle.matrix.specs.Layout.{Written}
 use Rattle.matrix.specs.Product.{first_terms}
 use Rattle.matrix.proofs.Written.{put_below, written_below}
 use Rattle.job.specs.Job.{words, word_at, series_at, matrix_at}
 use Rattle.job.proofs.Outcomes.{all_below}
 use Rattle.ladder.specs.Layout.{matrix_of}
-use Rattle.newton.specs.Basis.{Spreadable, spread_term}
+use Rattle.newton.specs.Basis.{spread_term, units}
 use Rattle.newton.specs.System.{Placeable, Placed}
-use Rattle.newton.proofs.Sizes.{step_least, entry_inside}
-use Rattle.newton.proofs.Units.{diagonal_inside, diagonal_reach, diagonal_ones}
-
--- eight ones
-abbrev pub units : List ℕ
-units = replicate 8 1
+use Rattle.newton.proofs.Sizes.{entry_inside}
+use Rattle.newton.proofs.Units.{diagonal_inside, diagonal_ones}
 
 pub units-at : (e : ℕ) → e < 8 → get_or units e 0 ≡ 1
 units-at e l = get_or-replicate 8 e 1 0 l
@@ -40,7 +31,7 @@ matrix_same r n a z {w₂ = w₂} put same k i j l x y =
     same (0 + (i * r + j) * n + k) (omega arith)
     ∙ ap (λ c. get_or w₂ c 0) (omega arith)
     ∙ put.new ((i * r + j) * n + k) inside
-    ∙ ap (λ c. get_or a c 0) (N.zero-add ((i * r + j) * n + k))
+    ∙ ap (λ c. get_or a c 0) (zero-add ((i * r + j) * n + k))
 
 module _ {r n : ℕ} {a w : List ℕ} (given : Placeable r n a w) where
   abbrev m : ℕ
@@ -50,27 +41,9 @@ module _ {r n : ℕ} {a w : List ℕ} (given : Placeable r n a w) where
   step = (r + 1) * n
 
   module _ {w₁ : List ℕ} (len₁ : length w₁ ≡ length w) (zeros : Zeros w₁) where
-    pub matrix_inside : Inside a 0 m × Inside w₁ 0 m
-    matrix_inside =
-        (record { within = omega (arith, given.matrix) }, record { within = omega (arith, given.room, len₁) })
-
     module _ {w₂ : List ℕ} (len₂ : length w₂ ≡ length w₁) (first : Put 0 m (words_from a 0) w₁ w₂) where
-      pub solution_spreads : Spreadable r step units 0 m w₂
-      solution_spreads = record {
-        terms = step_least r given.terms_least;
-        source = omega (arith, given.order, length-replicate {A = ℕ} 8 1);
-        target = omega (arith, given.room, len₁, len₂, diagonal_reach n given.order_least);
-      }
-
       module _ {w₃ : List ℕ} (len₃ : length w₃ ≡ length w₂)
           (second : Written r step (first_terms m 1) (spread_term units 0) w₂ w₃) where
-        pub inverse_spreads : Spreadable r step units 0 (2 * m) w₃
-        inverse_spreads = record {
-          terms = step_least r given.terms_least;
-          source = omega (arith, given.order, length-replicate {A = ℕ} 8 1);
-          target = omega (arith, given.room, len₁, len₂, len₃, diagonal_reach n given.order_least);
-        }
-
         module _ {w₄ : List ℕ} (third : Written r step (first_terms (2 * m) 1) (spread_term units 0) w₃ w₄) where
           ones : (e : ℕ) → e < r → get_or units e 0 ≡ 1
           ones e l = units-at e (omega (arith, given.order))

@@ -1,14 +1,9 @@
 -- The room of a basis job: A, Y0 and its inverse put into their places, and what the rounds then give.
 -- Assumes nothing.
-use mathlib.Core.Path.{◌≡◌, refl, sym, ap, ◌∙◌}
-use mathlib.Core.List.{List}
-use Prim.Native.Nat.{ℕ, ◌+◌, ◌*◌, ◌%◌, ◌<◌}
-use native.Mathlib.Nat as N
-use native.Mathlib.Omega.{arith}
-use lib.ListN.{length, get_or}
+use Rattle.std.proofs.Common.{zero-add, ◌≡◌, refl, sym, ap, ◌∙◌, List, ℕ, ◌+◌, ◌*◌, ◌%◌, ◌<◌, arith, length, get_or}
 use Rattle.algebra.proofs.Meaning.{basis_cong}
 use Rattle.residue.specs.declared.Modulus.{Modulus}
-use Rattle.room.specs.Room.{words_from, Inside, Put, Zeros}
+use Rattle.room.specs.Room.{words_from, Put, Zeros}
 use Rattle.matrix.specs.Layout.{Below, Written}
 use Rattle.matrix.specs.Product.{first_terms}
 use Rattle.matrix.proofs.Written.{entry-below, put_below, written_below}
@@ -16,7 +11,7 @@ use Rattle.eliminate.specs.Square.{square_at}
 use Rattle.job.specs.Job.{words, matrix_at}
 use Rattle.ladder.specs.Layout.{matrix_of, solution_of, inverse_of}
 use Rattle.ladder.specs.Newton.{Started, BasisFound}
-use Rattle.newton.specs.Basis.{Spreadable, spread_term, start_of, Ready, Found}
+use Rattle.newton.specs.Basis.{spread_term, start_of, Ready, Found}
 use Rattle.newton.proofs.Sizes.{entry_inside}
 use Rattle.newton.proofs.Starts.{start_word, left_moved}
 use Rattle.newton.proofs.Matrices.{matrix_same}
@@ -29,32 +24,14 @@ module _ {q : Modulus} {r n : ℕ} {a y0 s w : List ℕ} (given : Ready q r n a 
     below₁ : Below q.p w₁
     below₁ k = rw (zeros.zeros k) given.modulus.some
 
-    pub matrix_inside : Inside a 0 m × Inside w₁ 0 m
-    matrix_inside =
-        (record { within = omega (arith, given.matrix) }, record { within = omega (arith, given.room, len₁) })
-
     module _ {w₂ : List ℕ} (len₂ : length w₂ ≡ length w₁) (first : Put 0 m (words_from a 0) w₁ w₂) where
       below₂ : Below q.p w₂
       below₂ = put_below first (λ j _. given.matrix_below (0 + j)) below₁
-
-      pub start_spreads : Spreadable (r * r) n y0 0 m w₂
-      start_spreads = record {
-        terms = given.terms_least;
-        source = omega (arith, given.start);
-        target = omega (arith, given.room, len₁, len₂);
-      }
 
       module _ {w₃ : List ℕ} (len₃ : length w₃ ≡ length w₂)
           (second : Written (r * r) n (first_terms m 1) (spread_term y0 0) w₂ w₃) where
         below₃ : Below q.p w₃
         below₃ = written_below second (λ e k. given.start_below (0 + e)) below₂
-
-        pub inverse_spreads : Spreadable (r * r) n s (r * r) (2 * m) w₃
-        inverse_spreads = record {
-          terms = given.terms_least;
-          source = omega (arith, given.square);
-          target = omega (arith, given.room, len₁, len₂, len₃);
-        }
 
         module _ {w₄ : List ℕ} (len₄ : length w₄ ≡ length w₃)
             (third : Written (r * r) n (first_terms (2 * m) 1) (spread_term s (r * r)) w₃ w₄) where
@@ -70,7 +47,7 @@ module _ {q : Modulus} {r n : ℕ} {a y0 s w : List ℕ} (given : Ready q r n a 
               let inside = entry_inside given.terms_least x y in
               before_third (m + (i * r + j) * n + 0) (omega arith)
               ∙ second.new (i * r + j) 0 (entry-below x y) (omega arith) (omega arith)
-              ∙ ap (λ c. get_or y0 c 0) (N.zero-add (i * r + j))
+              ∙ ap (λ c. get_or y0 c 0) (zero-add (i * r + j))
               ∙ sym (start_word r y0 i j)
 
           inverse_first : (i j : ℕ) → i < r → j < r → inverse_of r n m w₄ 0 i j ≡ square_at r s (r * r) i j

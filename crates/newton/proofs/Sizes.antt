@@ -1,8 +1,6 @@
 -- The numbers of words of a job: they fit, and an entry lies inside its matrix.
 -- Assumes nothing.
-use Prim.Native.Nat.{ℕ, ◌+◌, ◌*◌, ◌<◌, ◌≤◌}
-use native.Mathlib.Nat.{mul-le-mul}
-use native.Mathlib.Omega.{arith}
+use Rattle.std.proofs.Common.{ℕ, ◌+◌, ◌*◌, ◌<◌, ◌≤◌, mul-le-mul, arith}
 use Rattle.matrix.proofs.Written.{stride, entry-below}
 
 -- the entries of a matrix, and its words

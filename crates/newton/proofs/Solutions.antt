@@ -1,19 +1,14 @@
 -- The room of a system job with b and v put in, what the solver then gives, and the solution handed over.
 -- Assumes nothing.
-use mathlib.Core.Path.{◌≡◌, refl, sym, ap, ◌∙◌}
-use mathlib.Core.Logic.{inl}
-use mathlib.Core.List.{List}
-use Prim.Native.Nat.{ℕ, ◌+◌, ◌*◌, ◌%◌, ◌<◌, ◌≤◌}
-use native.Mathlib.Nat as N
-use native.Mathlib.Omega.{arith}
-use lib.ListN.{length, get_or}
+use Rattle.std.proofs.Common.{le_refl, mul-le-mul, mul-le-mul_right, mul-one, zero-add, ◌≡◌, refl, sym, ap, ◌∙◌, inl}
+use Rattle.std.proofs.Common.{List, ℕ, ◌+◌, ◌*◌, ◌%◌, ◌<◌, ◌≤◌, arith, length, get_or}
 use Rattle.algebra.specs.Meaning.{identity_at, LeftInverse}
 use Rattle.algebra.proofs.Matrix.{Matrices}
 use Rattle.algebra.proofs.Residue.{Residues}
 use Rattle.algebra.proofs.Meaning.{system_cong}
 use Rattle.algebra.proofs.Tables.{matrix_identity, left_inverse_of-matrix}
 use Rattle.residue.specs.declared.Modulus.{Modulus}
-use Rattle.room.specs.Room.{words_from, Inside, Put, Zeros}
+use Rattle.room.specs.Room.{words_from, Put, Zeros}
 use Rattle.matrix.specs.Layout.{Below, Written}
 use Rattle.matrix.specs.Product.{first_terms}
 use Rattle.matrix.proofs.Written.{stride, put_below, written_below}
@@ -21,7 +16,7 @@ use Rattle.job.specs.Job.{words, word_at, series_at, matrix_at}
 use Rattle.job.proofs.Outcomes.{all_below}
 use Rattle.ladder.specs.Layout.{matrix_of, solution_of, inverse_of, side_of, value_of, answer_of}
 use Rattle.ladder.specs.Newton.{Started, StartsWithOne, Varied}
-use Rattle.newton.specs.Basis.{Spreadable, spread_term}
+use Rattle.newton.specs.Basis.{spread_term}
 use Rattle.newton.specs.System.{Placed, SystemReady, SystemFound, SystemRan}
 use Rattle.newton.proofs.Sizes.{entry_inside}
 use Rattle.newton.proofs.Starts.{left_moved}
@@ -41,29 +36,13 @@ module _ {q : Modulus} {r n l : ℕ} {a b v w : List ℕ} (given : SystemReady q
   pub thin : r * n ≤ l
   thin =
       let least = given.placeable.order_least in
-      omega (arith, N.mul-le-mul_right n (N.mul-le-mul (N.le_refl r) least), N.mul-one r)
+      omega (arith, mul-le-mul_right n (mul-le-mul (le_refl r) least), mul-one r)
 
   module _ {w₁ : List ℕ} (len₁ : length w₁ ≡ length w) (placed : Placed r n a w₁) where
     below₁ : Below q.p w₁
     below₁ = placed.below q.p given.prime.two given.matrix_below
 
-    pub sides_inside : Inside b 0 (r * n) × Inside w₁ (8 * l) (r * n)
-    sides_inside =
-        let room = given.placeable.room in
-        let small = thin in
-        (record { within = omega (arith, given.sides) }, record { within = omega arith })
-
     module _ {w₂ : List ℕ} (len₂ : length w₂ ≡ length w₁) (first : Put (8 * l) (r * n) (words_from b 0) w₁ w₂) where
-      pub starts_spread : Spreadable r n v 0 (9 * l) w₂
-      starts_spread =
-          let room = given.placeable.room in
-          let small = thin in
-          record {
-            terms = given.placeable.terms_least;
-            source = omega (arith, given.starts);
-            target = omega arith;
-          }
-
       module _ {w₃ : List ℕ} (len₃ : length w₃ ≡ length w₂)
           (second : Written r n (first_terms (9 * l) 1) (spread_term v 0) w₂ w₃) where
         -- words before the place of b
@@ -119,7 +98,7 @@ module _ {q : Modulus} {r n l : ℕ} {a b v w : List ℕ} (given : SystemReady q
             ap (λ c. get_or w₃ c 0) place
             ∙ second.old (8 * l + (i * n + k)) (λ e d y _ u eq. absurd (omega arith))
             ∙ first.new (i * n + k) (omega arith)
-            ∙ ap (λ c. get_or b c 0) (N.zero-add (i * n + k))
+            ∙ ap (λ c. get_or b c 0) (zero-add (i * n + k))
 
         start_same : (i : ℕ) → i < r → value_of r n m w₃ 0 i ≡ word_at words v i
         unfolding word_at
@@ -128,7 +107,7 @@ module _ {q : Modulus} {r n l : ℕ} {a b v w : List ℕ} (given : SystemReady q
             vector_place (9 * m) n i 0 ∙ omega arith in
             ap (λ c. get_or w₃ c 0) place
             ∙ second.new i 0 x (omega arith) (omega arith)
-            ∙ ap (λ c. get_or v c 0) (N.zero-add i)
+            ∙ ap (λ c. get_or v c 0) (zero-add i)
 
         pub system_placed : {z : List ℕ} → Varied q.p r n (r * r * n) w₃ z → SystemFound q.p r n a b v z
         system_placed h = record {
@@ -142,19 +121,13 @@ module _ {q : Modulus} {r n l : ℕ} {a b v w : List ℕ} (given : SystemReady q
 
   module _ {z : List ℕ} (len : length z ≡ length w) {count : ℕ} {y : List ℕ} (long : length y ≡ r * n)
       (whole : count ≡ length y) where
-    pub answer_inside : Inside z (11 * l) count × Inside y 0 count
-    answer_inside =
-        let room = given.placeable.room in
-        let small = thin in
-        (record { within = omega arith }, record { within = omega arith })
-
     pub system-handed : {y' u : List ℕ} → SystemFound q.p r n a b v z → length y' ≡ length y
         → Put 0 count (words_from z (11 * l)) y y' → Zeros u → SystemRan q.p r n a b v y' u
     unfolding series_at word_at
     system-handed {y'} found leny put zeros = record {
       below =
           all_below y' given.modulus.some (leny ∙ sym whole)
-          (λ k h. rw (rw N.zero-add at (put.new k h)) (found.below (11 * l + k)));
+          (λ k h. rw (rw zero-add at (put.new k h)) (found.below (11 * l + k)));
       series =
           system_cong given.placeable.terms_least (λ k i j s x y. refl) (λ k i s x. refl) (λ i x. refl)
           (λ k i s x. ap (λ c. c % q.p) (answer_same k i s x)) found.series;
@@ -166,4 +139,4 @@ module _ {q : Modulus} {r n l : ℕ} {a b v w : List ℕ} (given : SystemReady q
             let row = stride n x in
             let place : 11 * (r * r * n) + (i * 1 + 0) * n + k ≡ 11 * l + (i * n + k) =
             vector_place (11 * (r * r * n)) n i k ∙ omega arith in
-            ap (λ c. get_or z c 0) place ∙ sym (rw N.zero-add at (put.new (i * n + k) (omega arith)))
+            ap (λ c. get_or z c 0) place ∙ sym (rw zero-add at (put.new (i * n + k) (omega arith)))

@@ -1,25 +1,13 @@
 -- Words that are spread over entries, one by one.
 -- Assumes nothing.
-use mathlib.Core.Path.{◌≡◌, refl, ap}
-use mathlib.Core.List.{List}
-use Prim.Native.Nat.{ℕ, ◌+◌, ◌*◌, ◌<◌, ◌≤◌}
-use native.Mathlib.Omega.{arith}
-use lib.ListN.{length, get_or}
-use Rattle.room.specs.Room.{words_from, Inside, Put}
+use Rattle.std.proofs.Common.{◌≡◌, refl, ap, List, ℕ, ◌+◌, ◌*◌, ◌<◌, arith, length, get_or}
+use Rattle.room.specs.Room.{words_from, Put}
 use Rattle.matrix.specs.Product.{first_terms}
-use Rattle.matrix.proofs.Written.{stride, Filled, filled_next}
+use Rattle.matrix.proofs.Written.{Filled, filled_next}
 use Rattle.newton.specs.Basis.{Spreadable, spread_term}
 
 module _ {entries n from at : ℕ} {src w₀ w : List ℕ} {e : ℕ} (given : Spreadable entries n src from at w₀)
     (filled : Filled entries n (first_terms at 1) (spread_term src from) w₀ w e) (more : e < entries) where
-  pub word_fits : (from + e + 1 ≤ length src) × (at + e * n + 1 ≤ length w)
-  word_fits =
-      let step = stride n more in
-      (omega (arith, given.source), omega (arith, given.target, given.terms, filled.len))
-
-  pub word_inside : Inside src (from + e) 1 × Inside w (at + e * n) 1
-  word_inside = (record { within = word_fits.0 }, record { within = word_fits.1 })
-
   pub spread_next : {v : List ℕ} → length v ≡ length w → Put (at + e * n) 1 (words_from src (from + e)) w v
       → Filled entries n (first_terms at 1) (spread_term src from) w₀ v (e + 1)
   spread_next same put =

@@ -1,19 +1,14 @@
 -- Y0 and its inverse, in words of their own.
 -- Assumes nothing.
-use mathlib.Core.Path.{◌≡◌, refl, sym, ap, ap₂, ◌∙◌}
-use mathlib.Core.Bool.{Bool}
-use mathlib.Core.List.{List}
-use Prim.Native.Nat.{ℕ, ◌+◌, ◌*◌, ◌%◌, ◌<◌}
-use native.Mathlib.Nat as N
+use Rattle.std.proofs.Common.{zero-add, ◌≡◌, refl, sym, ap, ap₂, ◌∙◌, Bool, List, ℕ, ◌+◌, ◌*◌, ◌%◌, ◌<◌, arith}
+use Rattle.std.proofs.Common.{get_or}
 use native.Mathlib.Decide.{dec_lt}
-use native.Mathlib.Omega.{arith}
-use lib.ListN.{length, get_or}
 use Rattle.algebra.specs.Meaning.{LeftInverse}
 use Rattle.algebra.proofs.Numbers.{sum_of_cong}
-use Rattle.room.specs.Room.{words_from, Inside, Put}
+use Rattle.room.specs.Room.{words_from, Put}
 use Rattle.matrix.specs.Layout.{Below}
 use Rattle.matrix.proofs.Written.{entry-below, put_below}
-use Rattle.eliminate.specs.Square.{square_at, Square, Inverted}
+use Rattle.eliminate.specs.Square.{square_at, Inverted}
 use Rattle.job.specs.Job.{word_at, series_at, matrix_at}
 use Rattle.newton.specs.Basis.{start_of, Startable, StartInverted}
 
@@ -31,23 +26,12 @@ left_moved {p} {r} u' v' eu ev h = record {
 }
 
 module _ {p r : ℕ} {y0 s : List ℕ} (given : Startable p r y0 s) where
-  pub start_inside : Inside y0 0 (r * r) × Inside s 0 (r * r)
-  start_inside = (record { within = omega (arith, given.source) }, record { within = omega (arith, given.target) })
-
   module _ {t : List ℕ} (copied : Put 0 (r * r) (words_from y0 0) s t) where
     copied_word : (k : ℕ) → k < r * r → get_or t k 0 ≡ get_or y0 k 0
-    copied_word k l = rw (N.zero-add) at (copied.new k l)
+    copied_word k l = rw (zero-add) at (copied.new k l)
 
     copied_below : Below p t
     copied_below = put_below copied (λ j _. given.start (0 + j)) given.rest
-
-    pub start_square : length t ≡ length s → Square p r t
-    start_square same = record {
-      prime = given.prime;
-      modulus = given.half;
-      room = rw same given.target;
-      below = λ k _. copied_below k;
-    }
 
     entry-same : (i j : ℕ) → i < r → j < r → start_of r y0 i j ≡ square_at r t 0 i j
     entry-same i j a b =

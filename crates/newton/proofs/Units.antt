@@ -1,13 +1,8 @@
 -- The identity in the places of Y and Z: ones that are spread over the diagonal of a cleared room.
 -- Assumes nothing.
-use mathlib.Core.Path.{◌≡◌, sym, ap, ◌∙◌}
-use mathlib.Core.Logic.{◌≢◌}
-use mathlib.Core.List.{List}
-use Prim.Native.Nat.{ℕ, ◌+◌, ◌*◌, ◌<◌, ◌≤◌}
-use native.Mathlib.Nat as N
+use Rattle.std.proofs.Common.{add-mul, le_refl, mul-add, mul-le-mul, mul-le-mul_right, mul-one, mul_assoc, zero-add}
+use Rattle.std.proofs.Common.{◌≡◌, sym, ap, ◌∙◌, ◌≢◌, List, ℕ, ◌+◌, ◌*◌, ◌<◌, ◌≤◌, arith, get_or}
 use native.Mathlib.Decide.{dec_lt, ℕ_discrete}
-use native.Mathlib.Omega.{arith}
-use lib.ListN.{get_or}
 use Rattle.algebra.specs.Meaning.{identity_at}
 use Rattle.algebra.proofs.Meaning.{identity_same, identity_other}
 use Rattle.matrix.specs.Layout.{coef, Written}
@@ -17,7 +12,7 @@ use Rattle.newton.specs.Basis.{spread_term}
 
 -- the words of the diagonal are r + 1 entries apart
 diagonal : (r n i : ℕ) → i * ((r + 1) * n) ≡ (i * r + i) * n
-diagonal r n i = rw (← N.mul_assoc, N.mul-add, N.mul-one)
+diagonal r n i = rw (← mul_assoc, mul-add, mul-one)
 
 -- the diagonal ends inside its place
 pub diagonal_inside : {r e : ℕ} (n : ℕ) → e < r → e * ((r + 1) * n) + n ≤ r * r * n
@@ -26,9 +21,9 @@ diagonal_inside {r} {e} n l = omega (arith, diagonal r n e, stride n (entry-belo
 -- as many steps as the diagonal has words end inside two places
 pub diagonal_reach : {r : ℕ} (n : ℕ) → 1 ≤ r → r * ((r + 1) * n) ≤ 2 * (r * r * n)
 diagonal_reach {r} n some =
-    let wide : r * 1 ≤ r * r = N.mul-le-mul (N.le_refl r) some in
-    let square : r ≤ r * r = omega (arith, N.mul-one r) in
-    omega (arith, diagonal r n r, N.add-mul (r * r) r n, N.mul-le-mul_right n square)
+    let wide : r * 1 ≤ r * r = mul-le-mul (le_refl r) some in
+    let square : r ≤ r * r = omega (arith, mul-one r) in
+    omega (arith, diagonal r n r, add-mul (r * r) r n, mul-le-mul_right n square)
 
 -- an entry beside the diagonal is none of these words
 off_diagonal : {r n i j e : ℕ} → 1 ≤ n → i < r → j < r → e < r → i ≢ j → (i * r + j) * n ≢ e * ((r + 1) * n)
@@ -65,7 +60,7 @@ module _ {r n : ℕ} (at : ℕ) (s : List ℕ) {w v : List ℕ} (some : 1 ≤ n)
             omega (arith, diagonal r n i, ap (λ x. (i * r + x) * n) (sym e)) in
             ap (λ x. get_or v x 0) place
             ∙ written.new i 0 a (omega arith) (omega arith)
-            ∙ ap (λ x. get_or s x 0) (N.zero-add i)
+            ∙ ap (λ x. get_or s x 0) (zero-add i)
             ∙ ones i a
             ∙ sym (ap (identity_at 0 i) (sym e) ∙ identity_same i)
         | no e ↦

@@ -1,6 +1,6 @@
 -- What the functions of the basis job take and give.
 -- Assumes nothing.
-use Rattle.std.specs.Prelude.{◌≡◌, Bool, true, false, List, ℕ, ◌+◌, ◌*◌, ◌^◌, ◌<◌, ◌≤◌, length, get_or}
+use Rattle.std.specs.Prelude.{◌≡◌, Bool, true, false, List, ℕ, ◌+◌, ◌*◌, ◌^◌, ◌<◌, ◌≤◌, length, get_or, replicate}
 use Rattle.algebra.specs.Numbers.{Prime}
 use Rattle.algebra.specs.Meaning.{LeftInverse, NoInverse, BasisSeries}
 use Rattle.residue.specs.declared.Modulus.{Modulus}
@@ -25,6 +25,10 @@ spread_term src from e k = get_or src (from + e) 0
 abbrev pub Spread : ℕ → ℕ → List ℕ → ℕ → ℕ → List ℕ → List ℕ → Type 0
 Spread entries n src from at before after =
     Written entries n (first_terms at 1) (spread_term src from) before after
+
+-- eight ones
+abbrev pub units : List ℕ
+units = replicate 8 1
 
 -- the entry in row i and column j of Y0
 abbrev pub start_of : ℕ → List ℕ → ℕ → ℕ → ℕ

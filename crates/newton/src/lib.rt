@@ -1,26 +1,24 @@
 // The jobs that the Newton solver does: a basis of solutions with its inverse, and a system by such a basis.
 #![tactic(auto)]
 
-ghost use Rattle.std.specs.Prelude.{◌≡◌, ◌*◌, length};
+ghost use Rattle.std.specs.Prelude.{◌≡◌, ◌+◌, ◌*◌, ◌≤◌, length};
 ghost use Rattle.job.specs.declared.Kind.TheVariants.{Basis, System};
 ghost use Rattle.job.specs.Job.{buffers, words};
 ghost use Rattle.job.specs.Outcome.{Outcome};
 ghost use Rattle.refusal.specs.Checked.{job_of};
-ghost use Rattle.newton.specs.Basis.{Spreadable, Spread, Startable, StartInverted, Ready, Found, Ran};
+ghost use Rattle.newton.specs.Basis.{Spreadable, Spread, units, Startable, StartInverted, Ready, Found, Ran};
 ghost use Rattle.newton.specs.System.{Placeable, Placed, SystemReady, SystemFound, SystemRan};
 
-use job::{Answer, Kind};
-use residue::Modulus;
+use job::{Kind, Refusal};
+use residue::Shape;
 
 // Puts the words of src from `from` on into the first terms of the entries from word `at` on, a word to an entry.
 pub fn spread(entries: usize, n: usize, src: &[u32], from: usize, at: usize, w: &mut [u32])
     requires { Spreadable entries n src.now from at w.old }
     ensures { Spread entries n src.now from at w.old w.new }
 {
-    let mut e = 0;
-    while e < entries {
+    for e in 0..entries {
         room::copy(src, from + e, w, at + e * n, 1);
-        e += 1;
     }
 }
 
@@ -34,24 +32,22 @@ fn invert_start(p: u32, r: usize, y0: &[u32], s: &mut [u32]) -> bool
 }
 
 // Finds the basis in a room: A, Y0 and its inverse, which stands in s from word r * r on, are put into their places.
-fn find_basis(q: Modulus, r: usize, n: usize, a: &[u32], y0: &[u32], s: &[u32], w: &mut [u32])
-    requires { Ready q r n a.now y0.now s.now w.old }
-    ensures { Found q.p r n a.now y0.now w.new }
+fn find_basis(g: Shape, a: &[u32], y0: &[u32], s: &[u32], w: &mut [u32])
+    requires { Ready g.q g.r g.n a.now y0.now s.now w.old }
+    ensures { Found g.q.p g.r g.n a.now y0.now w.new }
 {
-    let square = r * r;
-    let m = square * n;
+    let square = g.r * g.r;
+    let m = square * g.n;
     room::clear(w);
     room::copy(a, 0, w, 0, m);
-    spread(square, n, y0, 0, m, w);
-    spread(square, n, s, square, 2 * m, w);
-    ladder::solve_basis(q, r, n, w);
+    spread(square, g.n, y0, 0, m, w);
+    spread(square, g.n, s, square, 2 * m, w);
+    ladder::solve_basis(g, w);
 }
 
 // Does an accepted job: Y and Z go to their buffers, and the room is cleared again.
 fn run_basis(
-    q: Modulus,
-    r: usize,
-    n: usize,
+    g: Shape,
     a: &[u32],
     y0: &[u32],
     s: &[u32],
@@ -59,13 +55,13 @@ fn run_basis(
     z: &mut [u32],
     work: &mut [u32],
 )
-    requires { Ready q r n a.now y0.now s.now work.old
-        × (length y.old ≡ r * r * n)
-        × (length z.old ≡ r * r * n) }
-    ensures { Ran q.p r n a.now y0.now y.new z.new
+    requires { Ready g.q g.r g.n a.now y0.now s.now work.old
+        × (length y.old ≡ g.r * g.r * g.n)
+        × (length z.old ≡ g.r * g.r * g.n) }
+    ensures { Ran g.q.p g.r g.n a.now y0.now y.new z.new
         work.new }
 {
-    find_basis(q, r, n, a, y0, s, work);
+    find_basis(g, a, y0, s, work);
     let m = y.len();
     room::copy(work, m, y, 0, m);
     room::copy(work, 2 * m, z, 0, m);
@@ -82,68 +78,68 @@ pub fn basis(
     y: &mut [u32],
     z: &mut [u32],
     work: &mut [u32],
-) -> Answer
+) -> Result<(), Refusal>
     ensures { Outcome words
         (job_of Basis r n p
         (buffers a.now y0.now y.old z.old work.old))
         result
         (buffers a.now y0.now y.new z.new work.new) }
 {
-    let answer = refusal::check_words(Kind::Basis, r, n, p, a, y0, y, z, work);
-    let Answer::Done = answer else {
-        return answer;
-    };
+    refusal::check_words(Kind::Basis, r, n, p, a, y0, y, z, work)?;
     let mut s = [0u32; 128];
     if !invert_start(p as u32, r as usize, y0, &mut s) {
-        return Answer::Singular;
+        return Err(Refusal::Singular);
     }
     let q = residue::make_modulus(p as u32);
-    run_basis(q, r as usize, n as usize, a, y0, &s, y, z, work);
-    Answer::Done
+    let g = Shape {
+        q,
+        r: r as usize,
+        n: n as usize,
+    };
+    run_basis(g, a, y0, &s, y, z, work);
+    Ok(())
 }
 
-// Puts A into its place in the room, and the identity into the places of Y and Z: ones, r + 1 entries apart.
+// Puts the identity into the first terms of the entries from word `at` on: ones, r + 1 entries apart.
+pub fn place_identity(r: usize, n: usize, at: usize, w: &mut [u32])
+    requires { (r ≤ 8) × (n ≤ 4096) × Spreadable r ((r + 1) * n) units 0 at w.old }
+    ensures { Spread r ((r + 1) * n) units 0 at w.old w.new }
+{
+    let ones = [1u32; 8];
+    spread(r, (r + 1) * n, &ones, 0, at, w);
+}
+
+// Puts A into its place in the room, and the identity into the places of Y and Z.
 fn place_matrix(r: usize, n: usize, a: &[u32], w: &mut [u32])
     requires { Placeable r n a.now w.old }
     ensures { Placed r n a.now w.new }
 {
     let m = r * r * n;
-    let step = (r + 1) * n;
-    let ones = [1u32; 8];
     room::clear(w);
     room::copy(a, 0, w, 0, m);
-    spread(r, step, &ones, 0, m, w);
-    spread(r, step, &ones, 0, 2 * m, w);
+    place_identity(r, n, m, w);
+    place_identity(r, n, 2 * m, w);
 }
 
 // Finds the solution in a room.
-fn find_solution(q: Modulus, r: usize, n: usize, a: &[u32], b: &[u32], v: &[u32], w: &mut [u32])
-    requires { SystemReady q r n a.now b.now v.now w.old }
-    ensures { SystemFound q.p r n a.now b.now v.now w.new }
+fn find_solution(g: Shape, a: &[u32], b: &[u32], v: &[u32], w: &mut [u32])
+    requires { SystemReady g.q g.r g.n a.now b.now v.now w.old }
+    ensures { SystemFound g.q.p g.r g.n a.now b.now v.now w.new }
 {
     let m = a.len();
-    place_matrix(r, n, a, w);
-    room::copy(b, 0, w, 8 * m, r * n);
-    spread(r, n, v, 0, 9 * m, w);
-    ladder::solve_system(q, r, n, w);
+    place_matrix(g.r, g.n, a, w);
+    room::copy(b, 0, w, 8 * m, g.r * g.n);
+    spread(g.r, g.n, v, 0, 9 * m, w);
+    ladder::solve_system(g, w);
 }
 
 // Does an accepted job: the solution goes to y, and the room is cleared again.
-fn run_system(
-    q: Modulus,
-    r: usize,
-    n: usize,
-    a: &[u32],
-    b: &[u32],
-    v: &[u32],
-    y: &mut [u32],
-    work: &mut [u32],
-)
-    requires { SystemReady q r n a.now b.now v.now work.old × (length y.old ≡ r * n) }
-    ensures { SystemRan q.p r n a.now b.now v.now y.new
+fn run_system(g: Shape, a: &[u32], b: &[u32], v: &[u32], y: &mut [u32], work: &mut [u32])
+    requires { SystemReady g.q g.r g.n a.now b.now v.now work.old × (length y.old ≡ g.r * g.n) }
+    ensures { SystemRan g.q.p g.r g.n a.now b.now v.now y.new
         work.new }
 {
-    find_solution(q, r, n, a, b, v, work);
+    find_solution(g, a, b, v, work);
     let m = a.len();
     let count = y.len();
     room::copy(work, 11 * m, y, 0, count);
@@ -160,18 +156,20 @@ pub fn system(
     v: &[u32],
     y: &mut [u32],
     work: &mut [u32],
-) -> Answer
+) -> Result<(), Refusal>
     ensures { Outcome words
         (job_of System r n p
         (buffers a.now b.now v.now y.old work.old))
         result
         (buffers a.now b.now v.now y.new work.new) }
 {
-    let answer = refusal::check_words(Kind::System, r, n, p, a, b, v, y, work);
-    let Answer::Done = answer else {
-        return answer;
-    };
+    refusal::check_words(Kind::System, r, n, p, a, b, v, y, work)?;
     let q = residue::make_modulus(p as u32);
-    run_system(q, r as usize, n as usize, a, b, v, y, work);
-    Answer::Done
+    let g = Shape {
+        q,
+        r: r as usize,
+        n: n as usize,
+    };
+    run_system(g, a, b, v, y, work);
+    Ok(())
 }

@@ -9,14 +9,14 @@ use native.Mathlib.Omega.{arith}
 use lib.ListN.{length, get_or}
 use Rattle.job.specs.declared.Kind.{Kind}
 use Rattle.job.specs.declared.Kind.TheVariants.{System, Basis, Equation}
-use Rattle.job.specs.declared.Answer.{Answer}
-use Rattle.job.specs.declared.Answer.TheVariants.{Done}
-use Rattle.job.specs.Refusal.{Verdict, done, Rule, Says, verdict_of}
+use Rattle.std.specs.Prelude.{Ok, Err}
+use Rattle.job.specs.declared.Refusal.{Refusal}
+use Rattle.job.specs.Refusal.{Verdict, done, Rule, Says, Answer, refusal_verdict, verdict_of}
 use Rattle.job.specs.Job.{Buffers, listed, Handed, words, bytes, word_at, series_at, matrix_at, lengths_of, read_count}
 use Rattle.job.specs.Rules.{limit_rules, size_rules, length_rules, word_rules, read_rules}
 use Rattle.job.specs.Rules.{check_rules, kind_rules, call_rules}
 use Rattle.job.specs.Outcome.{Filled, Solved, Cleared, Outcome}
-use Rattle.job.proofs.Says.{refused_not_done, says-append_done, says-append_other, OtherThanDone, answer_other}
+use Rattle.job.proofs.Says.{refused_not_done, says-append_done, says-append_other, refusal_other}
 use Rattle.job.proofs.Accepted.{Sized, Accepted, accepted}
 use Rattle.refusal.specs.Checked.{Checked, job_of}
 use Rattle.octets.specs.Octets.{Carries, Encoded, Fitting}
@@ -209,24 +209,21 @@ module _ {kind : Kind} {r n : ℕ} {s t : Buffers} (decoded : Decoded kind r n s
       (shape_silent bytes kind r n s small (fitting_sized {s = s} decoded.fitting)) (rw regroup at says))
 
   -- the words job refused: nothing was written
-  pub outcome_kept : {p : ℕ} {x : Answer} {t' : Buffers} → Outcome words (job_of kind r n p t) x t' → OtherThanDone x
-      → Outcome bytes (job_of kind r n p s) x s
-  outcome_kept {p} {x} o other = record {
-    verdict = verdict-carried p (verdict_of x) o.verdict;
+  pub outcome_kept : {p : ℕ} {x : Refusal} {t' : Buffers} → Outcome words (job_of kind r n p t) (Err x) t'
+      → Outcome bytes (job_of kind r n p s) (Err x) s
+  outcome_kept {p} {x} o = record {
+    verdict = verdict-carried p (refusal_verdict x) o.verdict;
     kept = λ number first second e. refl;
-    solved = λ e. absurd (answer_other x other e);
-    cleared = λ e. absurd (answer_other x other e);
+    solved = λ e. absurd (refusal_other x e);
+    cleared = λ e. absurd (refusal_other x e);
   }
 
   -- the words job is done, and its results were written
-  pub outcome_done : {p : ℕ} {x : Answer} {s' t' : Buffers} → x ≡ Done → Outcome words (job_of kind r n p t) x t'
-      → Returned kind s s' t' → Outcome bytes (job_of kind r n p s) Done s'
-  unfolding verdict_of
-  outcome_done {p} {x} {s'} {t'} e o back =
-      let was = subst (λ (a : Answer). Outcome words (job_of kind r n p t) a t') e o in
-      record {
-        verdict = verdict-carried p done was.verdict;
-        kept = λ number first second h. absurd (refused_not_done number first second (sym h));
-        solved = λ h. solved_carried kind p decoded back (was.solved refl);
-        cleared = λ h. back.cleared;
-      }
+  pub outcome_done : {p : ℕ} {s' t' : Buffers} → Outcome words (job_of kind r n p t) (Ok tt) t'
+      → Returned kind s s' t' → Outcome bytes (job_of kind r n p s) (Ok tt) s'
+  outcome_done {p} o back = record {
+    verdict = verdict-carried p done o.verdict;
+    kept = λ number first second h. absurd (refused_not_done number first second (sym h));
+    solved = λ h. solved_carried kind p decoded back (o.solved refl);
+    cleared = λ h. back.cleared;
+  }

@@ -1,9 +1,7 @@
 -- `bytejobs::basis` meets its contract: a job that does not fit is refused by the checks, and one that fits has room
 -- in the arrays and is run.
 -- Assumes nothing.
-use mathlib.Core.Path.{sym}
-use mathlib.Core.List.{[], ◌∷◌}
-use lib.ListN.{length}
+use Rattle.std.proofs.Common.{sym, [], ◌∷◌, length}
 use Rattle.job.specs.declared.Kind.TheVariants.{Basis}
 use Rattle.octets.specs.Octets.{Fitting}
 use Rattle.octets.proofs.Carry.{outcome_unfit}
@@ -46,7 +44,3 @@ run_basis-requires c =
       three_long = three_whole fit (front_length 1024 _ (three_within fit));
       four_long = four_whole fit (front_length 1024 _ (four_within fit));
     }
-
-pub returns : goal.returns
-returns c =
-    c.run_basis.ensures

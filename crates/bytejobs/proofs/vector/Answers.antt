@@ -1,10 +1,7 @@
 -- `bytejobs::vector` meets its contract: a job that does not fit is refused by the checks, and one that fits has room
 -- in the arrays and is run.
 -- Assumes nothing.
-use mathlib.Core.Path.{sym}
-use mathlib.Core.List.{[], ◌∷◌}
-use Prim.Native.Nat.{◌/◌, ◌≤◌}
-use lib.ListN.{length}
+use Rattle.std.proofs.Common.{sym, [], ◌∷◌, ◌/◌, ◌≤◌, length}
 use Rattle.octets.specs.Octets.{Fitting}
 use Rattle.octets.proofs.Carry.{outcome_unfit}
 use Rattle.bytejobs.specs.Solvers.{kind_of}
@@ -21,15 +18,15 @@ returns-then-not-fits c =
 -- the job fits
 fitting : (c : Else-not-fits)
     → let s = c.args in
-    Fitting (kind_of s.solver) s.r s.n
-    (length s.one.now ∷ length s.two.now ∷ length s.three.now ∷ length s.four.now
+    Fitting (kind_of s.g.solver) s.g.r s.g.n
+    (length s.g.one.now ∷ length s.g.two.now ∷ length s.g.three.now ∷ length s.four.now
     ∷ length s.five.now ∷ [])
 fitting c =
     rw c.kind_of-kind.ensures at (c.fits.ensures.yes c.if-not-fits.false)
 
 -- its third buffer has at most eight words
-rows_within : (c : Else-not-fits) → length c.args.three.now / 4 ≤ 8
-rows_within c = third_rows c.args.solver c.requires (fitting c)
+rows_within : (c : Else-not-fits) → length c.args.g.three.now / 4 ≤ 8
+rows_within c = third_rows c.args.g.solver c.requires (fitting c)
 
 pub slice_bounds-c-end : goal.slice_bounds-c-end
 slice_bounds-c-end c = rows_within (goal.at.slice_bounds-c-end c).Else-not-fits
@@ -56,6 +53,3 @@ run_vector-requires c =
         four_long = four_whole fit (front_length 1024 _ (four_within fit));
       },
     )
-
-pub returns : goal.returns
-returns c = c.run_vector.ensures

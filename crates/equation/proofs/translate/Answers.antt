@@ -1,41 +1,18 @@
 -- `equation::translate` meets its contract: the ones, the last row and the right side are written one after the other.
 -- Assumes nothing.
-use mathlib.Core.Path.{◌∙◌}
-use Prim.Native.Nat.{◌+◌, ◌-◌, ◌*◌, ◌≤◌}
-use native.Mathlib.Omega.{arith}
-use lib.ListN.{length}
-use Rattle.equation.proofs.System.{
-  lead_invertible,
-  ones_spread,
-  ones_below,
-  row_inside,
-  row_dividable,
-  side_divisible,
-  translated,
-}
+use Rattle.std.proofs.Common.{◌∙◌, ◌+◌, ◌-◌, ◌*◌, ◌≤◌, arith, length}
+use Rattle.equation.proofs.System.{ones_spread, ones_below, row_inside, row_dividable, side_divisible, translated}
 use Rattle.equation.proofs.translate.Goals as goal
 use Rattle.equation.proofs.translate.Goals.{After-spread}
 
 -- where the last row starts
 abbrev row_start : (c : After-spread)
     → let s = c.args in
-    ((s.r - 1) * s.r ≤ 64) × (s.at + (s.r - 1) * s.r * s.n ≤ length s.w.now)
+    ((s.g.r - 1) * s.g.r ≤ 64) × (s.at + (s.g.r - 1) * s.g.r * s.g.n ≤ length s.w.now)
 row_start c = row_inside c.requires
-
-pub invert-lead-requires : goal.invert-lead-requires
-invert-lead-requires c = lead_invertible c.requires
 
 pub spread-requires : goal.spread-requires
 spread-requires c = ones_spread c.requires (omega arith)
-
-pub overflow_mul-last : goal.overflow_mul-last
-overflow_mul-last c = omega (arith, row_start (goal.at.overflow_mul-last c).After-spread)
-
-pub overflow_mul-last-2 : goal.overflow_mul-last-2
-overflow_mul-last-2 c = omega (arith, row_start (goal.at.overflow_mul-last-2 c).After-spread)
-
-pub overflow_add-at-2 : goal.overflow_add-at-2
-overflow_add-at-2 c = omega (arith, row_start (goal.at.overflow_add-at-2 c).After-spread)
 
 pub divide_row-requires : goal.divide_row-requires
 divide_row-requires c =

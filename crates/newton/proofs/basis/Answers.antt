@@ -1,33 +1,33 @@
 -- `newton::basis` meets its contract: what the checks refuse is refused, a Y0 with no inverse too, and any other job
 -- is run.
 -- Assumes nothing.
-use mathlib.Core.Path.{◌∙◌}
-use Prim.Native.Nat.{ℕ}
+use Rattle.std.proofs.Common.{◌∙◌, ℕ, arith}
 use lib.ListN.{length-replicate}
+use Rattle.std.proofs.lemmas.Result.{err_from_is_err_and}
 use Rattle.job.specs.Job.{Job, buffers, words}
 use Rattle.job.specs.declared.Kind.TheVariants.{Basis}
-use Rattle.job.proofs.Says.{answer_other}
+use Rattle.job.proofs.Says.{refusal_other}
 use Rattle.job.proofs.Accepted.{Accepted, accepted}
 use Rattle.job.proofs.Outcomes.{checks_refused}
 use Rattle.refusal.specs.Checked.{job_of}
-use Rattle.refusal.proofs.Judged.{judged_done}
 use Rattle.newton.proofs.Outcomes.{modulus_small, startable, basis_singular, ready, basis_done}
-use native.Mathlib.Omega.{arith}
 use Rattle.newton.proofs.basis.Goals as goal
-use Rattle.newton.proofs.basis.Goals.{In-Done}
+use Rattle.newton.proofs.basis.Goals.{In_ok-check_words}
 
-pub returns-in_default : goal.returns-in_default
-returns-in_default c = checks_refused (answer_other _ c.in_default.not-Done) c.check_words-answer.ensures.says
+pub returns-in_err-check_words : goal.returns-in_err-check_words
+returns-in_err-check_words c =
+    let p = err_from_is_err_and c.from_residual.result c.from_residual.ensures.1 in
+    rw (p.1, p.2) (checks_refused (refusal_other _) c.in_err-check_words.ensures.says)
 
 -- the job, once the checks have accepted it
-jobAt : In-Done → Job
+jobAt : In_ok-check_words → Job
 jobAt c =
     let s = c.args in
     job_of Basis s.r s.n s.p (buffers s.a.now s.y0.now s.y.now s.z.now s.work.now)
 
-admitted : (c : In-Done) → Accepted words (jobAt c)
+admitted : (c : In_ok-check_words) → Accepted words (jobAt c)
 unfolding jobAt
-admitted c = accepted words _ (judged_done c.check_words-answer.ensures c.in-Done.is)
+admitted c = accepted words _ c.in_ok-check_words.ensures.says
 
 pub overflow_cast-p : goal.overflow_cast-p
 unfolding jobAt
@@ -35,34 +35,34 @@ overflow_cast-p c = omega (arith, (modulus_small (admitted c).limits).half)
 
 pub invert_start-requires : goal.invert_start-requires
 unfolding jobAt
-invert_start-requires c = startable (admitted (goal.at.invert_start-requires c).In-Done)
+invert_start-requires c = startable (admitted (goal.at.invert_start-requires c).In_ok-check_words)
 
 pub returns-then-not-invert_start : goal.returns-then-not-invert_start
 unfolding jobAt
 returns-then-not-invert_start c =
-    basis_singular (admitted (goal.at.returns-then-not-invert_start c).In-Done) c.invert_start.ensures
+    basis_singular (admitted (goal.at.returns-then-not-invert_start c).In_ok-check_words) c.invert_start.ensures
     c.if-not-invert_start.true
 
 pub overflow_cast-p-2 : goal.overflow_cast-p-2
 unfolding jobAt
 overflow_cast-p-2 c =
-    omega (arith, (modulus_small (admitted (goal.at.overflow_cast-p-2 c).In-Done).limits).half)
+    omega (arith, (modulus_small (admitted (goal.at.overflow_cast-p-2 c).In_ok-check_words).limits).half)
 
 pub make_modulus-q-requires : goal.make_modulus-q-requires
 unfolding jobAt
 make_modulus-q-requires c =
-    modulus_small (admitted (goal.at.make_modulus-q-requires c).In-Done).limits
+    modulus_small (admitted (goal.at.make_modulus-q-requires c).In_ok-check_words).limits
 
 pub run_basis-requires : goal.run_basis-requires
 unfolding jobAt
 run_basis-requires c =
-    ready (admitted (goal.at.run_basis-requires c).In-Done) c.invert_start.ensures c.if-not-invert_start.false
+    ready (admitted (goal.at.run_basis-requires c).In_ok-check_words) c.invert_start.ensures c.if-not-invert_start.false
     c.make_modulus-q.ensures (c.invert_start.auto.s ∙ length-replicate {A = ℕ} 128 0)
 
 pub returns : goal.returns
 unfolding jobAt
 returns c =
-    basis_done (admitted (goal.at.returns c).In-Done) c.invert_start.ensures c.if-not-invert_start.false
+    basis_done (admitted (goal.at.returns c).In_ok-check_words) c.invert_start.ensures c.if-not-invert_start.false
     c.make_modulus-q.ensures c.run_basis.auto.y
     c.run_basis.auto.z c.run_basis.auto.work
     c.run_basis.ensures

@@ -1,5 +1,4 @@
--- The invariants and measures.
-use Prim.Native.Nat.{◌-◌}
+-- The invariant.
 use Rattle.matrix.specs.Product.{first_terms}
 use Rattle.matrix.proofs.Written.{Filled}
 use Rattle.newton.specs.Basis.{spread_term}
@@ -7,6 +6,3 @@ use Rattle.newton.proofs.spread.Given as goal
 
 abbrev pub invariant-loop-e : goal.invariant-loop-e
 invariant-loop-e l = Filled l.entries l.n (first_terms l.at 1) (spread_term l.src l.from) l.initial.w l.w l.e
-
-abbrev pub decreases-loop-e : goal.decreases-loop-e
-decreases-loop-e l = l.entries - l.e

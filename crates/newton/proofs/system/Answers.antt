@@ -1,26 +1,28 @@
 -- `newton::system` meets its contract: what the checks refuse is refused, and a job that they accept is run.
 -- Assumes nothing.
+use Rattle.std.proofs.lemmas.Result.{err_from_is_err_and}
 use Rattle.job.specs.Job.{buffers, words}
 use Rattle.job.specs.declared.Kind.TheVariants.{System}
-use Rattle.job.proofs.Says.{answer_other}
+use Rattle.job.proofs.Says.{refusal_other}
 use Rattle.job.proofs.Accepted.{Accepted, accepted}
 use Rattle.job.proofs.Outcomes.{checks_refused}
 use Rattle.refusal.specs.Checked.{job_of}
-use Rattle.refusal.proofs.Judged.{judged_done}
 use Rattle.newton.proofs.Outcomes.{modulus_small, system_ready, system_done}
-use native.Mathlib.Omega.{arith}
+use Rattle.std.proofs.Common.{arith}
 use Rattle.newton.proofs.system.Goals as goal
-use Rattle.newton.proofs.system.Goals.{In-Done}
+use Rattle.newton.proofs.system.Goals.{In_ok-check_words}
 
-pub returns-in_default : goal.returns-in_default
-returns-in_default c = checks_refused (answer_other _ c.in_default.not-Done) c.check_words-answer.ensures.says
+pub returns-in_err-check_words : goal.returns-in_err-check_words
+returns-in_err-check_words c =
+    let p = err_from_is_err_and c.from_residual.result c.from_residual.ensures.1 in
+    rw (p.1, p.2) (checks_refused (refusal_other _) c.in_err-check_words.ensures.says)
 
 -- the checks accept the job
-admitted : (c : In-Done)
+admitted : (c : In_ok-check_words)
     → let s = c.args in
     Accepted words
     (job_of System s.r s.n s.p (buffers s.a.now s.b.now s.v.now s.y.now s.work.now))
-admitted c = accepted words _ (judged_done c.check_words-answer.ensures c.in-Done.is)
+admitted c = accepted words _ c.in_ok-check_words.ensures.says
 
 pub overflow_cast-p : goal.overflow_cast-p
 overflow_cast-p c = omega (arith, (modulus_small (admitted c).limits).half)
@@ -30,9 +32,9 @@ make_modulus-q-requires c = modulus_small (admitted c).limits
 
 pub run_system-requires : goal.run_system-requires
 run_system-requires c =
-    system_ready (admitted (goal.at.run_system-requires c).In-Done) c.make_modulus-q.ensures
+    system_ready (admitted (goal.at.run_system-requires c).In_ok-check_words) c.make_modulus-q.ensures
 
 pub returns : goal.returns
 returns c =
-    system_done (admitted (goal.at.returns c).In-Done) c.make_modulus-q.ensures c.run_system.auto.y
+    system_done (admitted (goal.at.returns c).In_ok-check_words) c.make_modulus-q.ensures c.run_system.auto.y
     c.run_system.auto.work c.run_system.ensures
