@@ -1,13 +1,7 @@
 -- The tests of a job's size and of the lengths of its buffers.
 -- Assumes nothing.
-use mathlib.Core.Path.{◌≡◌, sym, ap, ◌∙◌}
-use mathlib.Core.List.{List}
-use Prim.Native.Nat.{ℕ, ◌*◌, ◌≤◌, ◌<◌}
-use native.Mathlib.Nat as N
-use native.Mathlib.Omega.{arith}
-use lib.Dec.{leb}
-use lib.ListN.{get_or}
-use borrow.Author.Tests.{leb-true, leb-false}
+use Rattle.std.proofs.Common.{◌≡◌, sym, ap, ◌∙◌, List, ℕ, ◌*◌, ◌≤◌, ◌<◌, mul-le-mul, mul-le-mul_right, arith, leb}
+use Rattle.std.proofs.Common.{get_or, leb-true, leb-false}
 use Rattle.prime.specs.Test.{Decides}
 use Rattle.job.specs.declared.Kind.{Kind}
 use Rattle.job.specs.Job.{lengths_of}
@@ -16,8 +10,8 @@ use Rattle.octets.specs.Octets.{Small, Fitting}
 -- the terms of a small job are within its size
 pub terms_within : {r n : ℕ} → Small r n → n ≤ 1024
 terms_within {r} {n} small =
-    let square : 1 * 1 ≤ r * r = N.mul-le-mul small.order_least small.order_least in
-    omega (arith, N.mul-le-mul_right n square, small.size)
+    let square : 1 * 1 ≤ r * r = mul-le-mul small.order_least small.order_least in
+    omega (arith, mul-le-mul_right n square, small.size)
 
 -- the last test: order and terms are within their limits
 pub size_decides : {r n : ℕ} → 1 ≤ r → r ≤ 8 → 1 ≤ n → Decides (leb (r * r * n) 1024) (Small r n)
