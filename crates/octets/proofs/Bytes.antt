@@ -1,14 +1,10 @@
 -- Laws of buffers of bytes: the word at a place whose four bytes are set or kept; words that are written one by one
 -- (`Turn`, the invariant of the loop, with its start, its next turn and its end); and bytes that carry words.
 -- Assumes nothing.
-use mathlib.Core.Path.{◌≡◌, refl, ◌∙◌}
-use mathlib.Core.Logic.{◌⊎◌, inl, ⊎_elim}
-use mathlib.Core.List.{List}
-use Prim.Native.Nat.{ℕ, ◌+◌, ◌*◌, ◌/◌, ◌%◌, ◌≤◌, ◌<◌}
+use Rattle.std.proofs.Common.{◌≡◌, refl, ◌∙◌, ◌⊎◌, inl, ⊎_elim, List, ℕ, ◌+◌, ◌*◌, ◌/◌, ◌%◌, ◌≤◌, ◌<◌, arith, length}
+use Rattle.std.proofs.Common.{get_or, set, length-set, get_or-set_same, get_or-set_other}
 use native.Mathlib.Decide.{dec_lt, ℕ_discrete}
-use native.Mathlib.Omega.{arith}
-use lib.ListN.{length, get_or, set, length-set, get_or-eq_default}
-use lib.Seq.{get_or-set_same, get_or-set_other}
+use lib.ListN.{get_or-eq_default}
 use Rattle.job.specs.Job.{words, bytes, word_at}
 use Rattle.octets.specs.Octets.{Carries, WordPut, Encoded}
 

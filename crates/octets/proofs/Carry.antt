@@ -2,11 +2,9 @@
 -- same, so every rule of words and of the kind is; limits are the same, and the size and the lengths are right. So the
 -- verdict is the same, and the results that carry the words of the results are the series that is meant.
 -- Assumes nothing.
-use mathlib.Core.Path.{◌≡◌, refl, sym, subst, fun_ext}
-use mathlib.Core.List.{List, ◌++◌, append_assoc, map}
-use Prim.Native.Nat.{ℕ, zero, suc, ◌+◌, ◌*◌, ◌≤◌, ◌<◌}
-use native.Mathlib.Omega.{arith}
-use lib.ListN.{length, get_or}
+use Rattle.std.proofs.Common.{◌≡◌, refl, sym, subst, List, ◌++◌, append_assoc, map, ℕ, zero, suc, ◌+◌, ◌*◌, ◌≤◌, ◌<◌}
+use Rattle.std.proofs.Common.{arith, length, get_or}
+use mathlib.Core.Path.{fun_ext}
 use Rattle.job.specs.declared.Kind.{Kind}
 use Rattle.job.specs.declared.Kind.TheVariants.{System, Basis, Equation}
 use Rattle.std.specs.Prelude.{Ok, Err}

@@ -1,11 +1,6 @@
 -- What the contracts fix: the words that bytes carry, and the bytes that carry words.
 -- Assumes nothing.
-use mathlib.Core.Path.{◌≡◌, refl, sym, ◌∙◌}
-use mathlib.Core.List.{List}
-use Prim.Native.Nat.{ℕ, ◌+◌, ◌*◌, ◌<◌}
-use native.Mathlib.Omega.{arith}
-use lib.ListN.{length, get_or}
-use lib.Seq.{ext_get_or}
+use Rattle.std.proofs.Common.{◌≡◌, refl, sym, ◌∙◌, List, ℕ, ◌+◌, ◌*◌, ◌<◌, arith, length, get_or, ext_get_or}
 use Rattle.job.specs.Job.{bytes, word_at}
 use Rattle.job.specs.Outcome.{Filled}
 use Rattle.job.proofs.Cells.{filled-same}

@@ -13,10 +13,8 @@ pub fn decode(s: &[u8], w: &mut [u32])
     requires { length s.now ≡ 4 * length w.old }
     ensures { Carries s.now w.new }
 {
-    let mut k = 0;
-    while k < w.len() {
+    for k in 0..w.len() {
         w[k] = refusal::word_at(s, k);
-        k += 1;
     }
 }
 
@@ -36,10 +34,8 @@ pub fn encode(w: &[u32], s: &mut [u8])
     requires { length s.old ≡ 4 * length w.now }
     ensures { Encoded w.now s.new }
 {
-    let mut j = 0;
-    while j < w.len() {
+    for j in 0..w.len() {
         put_word(s, j, w[j]);
-        j += 1;
     }
 }
 
@@ -47,30 +43,14 @@ pub fn encode(w: &[u32], s: &mut [u8])
 pub fn clear(s: &mut [u8])
     ensures { Zeros s.new }
 {
-    let mut i = 0;
-    while i < s.len() {
-        s[i] = 0;
-        i += 1;
-    }
+    s.fill(0);
 }
 
 // Is a job of this order and this number of terms no larger than a byte job may be?
 fn is_small(r: u64, n: u64) -> bool
     ensures { Decides result (Small r n) }
 {
-    if r < 1 {
-        return false;
-    }
-    if 8 < r {
-        return false;
-    }
-    if n < 1 {
-        return false;
-    }
-    if 1024 < n {
-        return false;
-    }
-    r * r * n <= 1024
+    1 <= r && r <= 8 && 1 <= n && n <= 1024 && r * r * n <= 1024
 }
 
 // Is it such a job, and have its buffers just the bytes that it needs?
@@ -81,12 +61,10 @@ pub fn fits(kind: Kind, r: u64, n: u64, lengths: [usize; 5]) -> bool
         return false;
     }
     let should = refusal::lengths_of(kind, r as usize, n as usize);
-    let mut b = 0;
-    while b < 5 {
+    for b in 0..5 {
         if lengths[b] != 4 * should[b] {
             return false;
         }
-        b += 1;
     }
     true
 }

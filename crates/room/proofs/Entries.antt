@@ -2,20 +2,14 @@
 -- `by_entries`: a word is one of theirs or none of them; where a loop that fills them one after the other stands; and
 -- of filled entries: the words between and outside them, words below p, and that the list is fixed.
 -- Assumes nothing.
-use mathlib.Core.Path.{◌≡◌, refl, sym, ◌∙◌}
-use mathlib.Core.Logic.{◌⊎◌, ◌≢◌, inl, inr, ⊎_elim}
-use mathlib.Core.List.{List}
-use Prim.Native.Nat.{ℕ, zero, suc, ◌+◌, ◌-◌, ◌*◌, ◌<◌, ◌≤◌}
-use native.Mathlib.Nat as N
+use Rattle.std.proofs.Common.{◌≡◌, sym, ◌∙◌, ◌⊎◌, ◌≢◌, inl, inr, ⊎_elim, List, ℕ, zero, suc, ◌+◌, ◌-◌, ◌*◌, ◌<◌}
+use Rattle.std.proofs.Common.{◌≤◌, mul-le-mul_right, suc-mul, arith, length, get_or, ext_get_or}
 use native.Mathlib.Decide.{dec_lt, ℕ_discrete}
-use native.Mathlib.Omega.{arith}
-use lib.ListN.{length, get_or}
-use lib.Seq.{ext_get_or}
 use Rattle.room.specs.Room.{Put, OffEntries, PutEntries}
 
 -- an entry ends before the next begins
 pub stride : (n : ℕ) {e f : ℕ} → e < f → e * n + n ≤ f * n
-stride n {e} {f} h = rw N.suc-mul at (N.mul-le-mul_right n h)
+stride n {e} {f} h = rw suc-mul at (mul-le-mul_right n h)
 
 -- a word that is none of a run's is before or behind it
 pub beside_run : {to m c : ℕ} → ((d : ℕ) → d < m → c ≢ to + d) → (c < to) ⊎ (to + m ≤ c)
@@ -55,13 +49,6 @@ pub record EntryTurn (to entries n m : ℕ) (f : ℕ → ℕ → ℕ) (w₀ w : 
   pub len : length w ≡ length w₀
   pub put : PutEntries to e n m f w₀ w
 
-pub entries_start : (to entries n m : ℕ) (f : ℕ → ℕ → ℕ) (w : List ℕ) → EntryTurn to entries n m f w w 0
-entries_start to entries n m f w = record {
-  within = omega arith;
-  len = refl;
-  put = record { new = λ e j h. absurd (omega arith); old = λ k h. refl };
-}
-
 module _ {to entries n m : ℕ} {f : ℕ → ℕ → ℕ} {w₀ w : List ℕ} {e : ℕ} (t : EntryTurn to entries n m f w₀ w e) where
   -- one entry more
   pub entries_next : {v : List ℕ} {g : ℕ → ℕ} → m ≤ n → e < entries → length v ≡ length w → Put (to + e * n) m g w v
@@ -85,10 +72,6 @@ module _ {to entries n m : ℕ} {f : ℕ → ℕ → ℕ} {w₀ w : List ℕ} {e
       old k none =
           put.old k (beside_run (λ j l. none e j (omega arith) l))
           ∙ t.put.old k (λ d j h. none d j (omega arith))
-
-  -- all entries
-  pub entries_done : entries ≤ e → PutEntries to entries n m f w₀ w
-  entries_done all = let i : e ≡ entries = omega (arith, t.within) in rw i at t.put
 
 module _ {to entries n m : ℕ} {f : ℕ → ℕ → ℕ} {w₀ w : List ℕ} (put : PutEntries to entries n m f w₀ w) where
   -- a word between two entries

