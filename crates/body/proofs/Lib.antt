@@ -1,4 +1,3 @@
 pub mod Totals
 pub mod Sizes
 pub mod Waits
-pub mod Behind

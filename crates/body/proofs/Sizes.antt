@@ -1,8 +1,6 @@
 -- Sizes of a sheet's job: within the limits no length wraps, and every length fits its room.
 -- Assumes nothing.
-use Prim.Native.Nat.{ℕ, ◌+◌, ◌*◌, ◌≤◌}
-use native.Mathlib.Nat.{mul-le-mul, mul-le-mul_left, mul-le-mul_right, mul-one, one-mul}
-use native.Mathlib.Omega.{arith}
+use Rattle.std.proofs.Common.{ℕ, ◌+◌, ◌*◌, ◌≤◌, mul-le-mul, mul-le-mul_left, mul-le-mul_right, mul-one, one-mul, arith}
 use Rattle.job.specs.declared.Kind.{Kind}
 use Rattle.job.specs.declared.Kind.TheVariants.{System, Basis, Equation}
 use Rattle.job.specs.Job.{carried, lengths_of, read_count}

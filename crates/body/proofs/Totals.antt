@@ -1,9 +1,6 @@
 -- How many lines and numbers a job sheet has: its numbers are as many as the words of the job's read buffers.
 -- Assumes nothing.
-use mathlib.Core.Path.{◌≡◌, ◌∙◌}
-use mathlib.Core.List.{List, [], ◌∷◌, ◌++◌}
-use Prim.Native.Nat.{ℕ, ◌+◌}
-use native.Mathlib.Omega.{arith}
+use Rattle.std.proofs.Common.{◌≡◌, ◌∙◌, List, [], ◌∷◌, ◌++◌, ℕ, ◌+◌, arith}
 use Rattle.job.specs.declared.Kind.{Kind}
 use Rattle.job.specs.declared.Kind.TheVariants.{System, Basis, Equation}
 use Rattle.job.specs.Job.{carried, lengths_of, read_count}

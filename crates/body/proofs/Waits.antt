@@ -1,11 +1,6 @@
 -- Reading the lines behind line 1: what each step wants of the buffer, and where the numbers of each block begin.
 -- Assumes nothing.
-use mathlib.Core.Path.{◌≡◌, refl, ◌∙◌}
-use mathlib.Core.List.{List, [], ◌∷◌, ◌++◌}
-use Prim.Native.Nat.{ℕ, ◌+◌, ◌*◌, ◌≤◌, ◌<◌}
-use native.Mathlib.Omega.{arith}
-use lib.IntN.{ℤ}
-use lib.ListN.{length}
+use Rattle.std.proofs.Common.{◌≡◌, refl, ◌∙◌, List, [], ◌∷◌, ◌++◌, ℕ, ◌+◌, ◌*◌, ◌≤◌, ◌<◌, arith, ℤ, length}
 use Rattle.job.specs.declared.Kind.{Kind}
 use Rattle.job.specs.declared.Kind.TheVariants.{System, Basis, Equation}
 use Rattle.job.specs.Job.{lengths_of, read_count}
@@ -14,13 +9,11 @@ use Rattle.text.proofs.Lines.{total-append}
 use Rattle.cursor.specs.declared.Cursor.{Cursor}
 use Rattle.lines.specs.declared.Numbers.{Numbers}
 use Rattle.lines.specs.Forms.{row_forms, matrix_forms}
-use Rattle.lines.specs.declared.Step.{Step}
-use Rattle.lines.specs.declared.Step.TheVariants as step
-use Rattle.lines.specs.Steps.{form_of, Placed, Ready, Read}
+use Rattle.lines.specs.Steps.{form_of, Placed, Ready}
 use Rattle.lines.proofs.Forms.{total-rows, total-matrix}
 use Rattle.body.specs.declared.Lengths.{Lengths}
 use Rattle.body.specs.JobLines.{read_lengths}
-use Rattle.body.specs.Parts.{Waiting, Reached}
+use Rattle.body.specs.Parts.{Waiting}
 use Rattle.body.proofs.Sizes.{Fits, lengths_fit}
 
 module _ {kind : Kind} {r : ℕ} {x y : Numbers} {l : Lengths} {s : List ℕ} {c : Cursor} {w : List ℤ}
@@ -38,7 +31,7 @@ module _ {kind : Kind} {r : ℕ} {x y : Numbers} {l : Lengths} {s : List ℕ} {c
     room = omega (arith, q.room, fits.all);
   }
 
-  values_ready : {d : Cursor} {v : List ℤ} (i : ℕ) → Placed s d → length v ≡ length w
+  pub values_ready : {d : Cursor} {v : List ℤ} (i : ℕ) → Placed s d → length v ≡ length w
       → i ≤ l.one + l.two + l.three → Ready s d y i v
   values_ready i p e h = record {
     placed = p;
@@ -54,17 +47,6 @@ module _ {kind : Kind} {r : ℕ} {x y : Numbers} {l : Lengths} {s : List ℕ} {c
       let m = q.small in
       let ready = series_ready (0 + r * (r * x.count)) q.placed refl (omega arith) in
       (ready, q.field, m.order_least, omega (arith, m.order), omega (arith, m.order))
-
-  -- the same behind lines that were read, or not
-  pub series_reached : (fs : List Form) (v : List ℤ) (t : Step) (i : ℕ) → Read s c fs 0 w v t
-      → i ≤ l.one + l.two + l.three → Reached s t x i v
-  series_reached fs v (step.Next d) i p h = (series_ready i p.placed p.long h, p.field)
-  series_reached fs v (step.Broken number) i p h = tt
-
-  pub values_reached : (fs : List Form) (v : List ℤ) (t : Step) (i : ℕ) → Read s c fs 0 w v t
-      → i ≤ l.one + l.two + l.three → Reached s t y i v
-  values_reached fs v (step.Next d) i p h = (values_ready i p.placed p.long h, p.field)
-  values_reached fs v (step.Broken number) i p h = tt
 
 -- the blocks of lines of each kind
 abbrev pub entries : Numbers → ℕ → List Form

@@ -1,14 +1,12 @@
 -- What the readers of a job sheet's lines ask and find.
 -- Assumes nothing.
-use Rattle.std.specs.Prelude.{◌≡◌, List, ◌++◌, ℕ, ◌*◌, ◌≤◌, ◌<◌, ◌^◌, ℤ, length, get_or}
+use Rattle.std.specs.Prelude.{◌≡◌, List, ℕ, ◌*◌, ◌≤◌, ◌<◌, ◌^◌, ℤ, length, get_or}
 use Rattle.job.specs.declared.Kind.{Kind}
 use Rattle.job.specs.Job.{carried}
-use Rattle.text.specs.Lines.{Form, total}
+use Rattle.text.specs.Lines.{Form}
 use Rattle.cursor.specs.declared.Cursor.{Cursor}
 use Rattle.lines.specs.declared.Numbers.{Numbers}
-use Rattle.lines.specs.declared.Step.{Step}
-use Rattle.lines.specs.declared.Step.TheVariants as step
-use Rattle.lines.specs.Steps.{form_of, Placed, Ready, Read}
+use Rattle.lines.specs.Steps.{form_of, Placed}
 use Rattle.body.specs.declared.Lengths.{Lengths}
 use Rattle.body.specs.JobLines.{job_lines, read_lengths}
 
@@ -42,14 +40,3 @@ pub record Waiting (kind : Kind) (r : ℕ) (series values : Numbers) (l : Length
     pub field : c.field ≡ 0
     pub ranges : (series.low ≤ 2 ^ 63) × (series.high < 2 ^ 63) × (values.low ≤ 2 ^ 63) × (values.high < 2 ^ 63)
     pub room : 3080 ≤ length w
-
--- what reading on wants: where lines were read, the place behind them, and a buffer with so many places
-abbrev pub Reached : List ℕ → Step → Numbers → ℕ → List ℤ → Type 0
-Reached s (step.Next d) n places w = Ready s d n places w × (d.field ≡ 0)
-Reached s (step.Broken number) n places w = Unit {0}
-
--- other lines behind lines, whatever those were: all are passed, or the first that is broken is found
-pub record ReadOn (s : List ℕ) (before : Step) (gs : List Form) (from : ℕ) (mid new : List ℤ) (after : Step) : Type 0
-  where
-    pub read : (c : Cursor) (fs : List Form) (old : List ℤ) → total fs ≡ from → Read s c fs 0 old mid before
-        → Read s c (fs ++ gs) 0 old new after

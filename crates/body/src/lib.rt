@@ -1,14 +1,12 @@
 // The lines of a job sheet behind line 1.
 #![tactic(auto)]
 
-ghost use Rattle.std.specs.Prelude.{[], ◌∷◌, ◌+◌, ◌*◌, ◌≤◌};
-ghost use Rattle.lines.specs.Forms.{row_forms};
-ghost use Rattle.lines.specs.Steps.{form_of, Read};
-ghost use Rattle.body.specs.Parts.{lines_of, Small, Measured, Waiting, Reached, ReadOn};
+ghost use Rattle.lines.specs.Steps.{Read};
+ghost use Rattle.body.specs.Parts.{lines_of, Small, Measured, Waiting};
 
 use cursor::Cursor;
 use job::Kind;
-use lines::{Numbers, Step};
+use lines::{BrokenLine, Numbers};
 
 // The words of the buffers that a job reads.
 #[derive(Clone, Copy)]
@@ -18,7 +16,9 @@ pub struct Lengths {
     pub three: usize,
 }
 
-// The words of the buffers that a job reads; 0 where a buffer is not read.
+// The words of the buffers that a job reads; 0 where a buffer is not read. (`refusal::lengths_of` gives the lengths of
+// all five, but no crate of the refusals stands below the sheets' lines.)
+#[tactic(auto, using(crate::proofs::Sizes::sizes))]
 pub fn measure(kind: Kind, r: usize, n: usize) -> Lengths
     requires { Small r n }
     ensures { Measured kind r n result }
@@ -42,37 +42,6 @@ pub fn measure(kind: Kind, r: usize, n: usize) -> Lengths
     }
 }
 
-// Behind lines that were read: so many lines with the head h and a number, from 1 on.
-fn rows_behind(
-    s: &[u8],
-    step: Step,
-    h: &[u8],
-    rows: usize,
-    n: Numbers,
-    w: &mut [i64],
-    from: usize,
-) -> Step
-    requires { Reached s.now step n (from + rows * n.count) w.old × (rows ≤ 9) }
-    ensures { ReadOn s.now step (row_forms (form_of n) h.now 1 rows) from w.old
-        w.new result }
-{
-    let Step::Next(d) = step else {
-        return step;
-    };
-    lines::read_rows(s, d, h, 1, rows, n, w, from)
-}
-
-// Behind lines that were read: a line with the head h.
-fn line_behind(s: &[u8], step: Step, h: &[u8], n: Numbers, w: &mut [i64], from: usize) -> Step
-    requires { Reached s.now step n (from + n.count) w.old }
-    ensures { ReadOn s.now step (form_of n h.now ∷ []) from w.old w.new result }
-{
-    let Step::Next(d) = step else {
-        return step;
-    };
-    lines::read_line(s, d, h, n, w, from)
-}
-
 // The lines of a system behind line 1: A, b, v.
 fn read_system(
     s: &[u8],
@@ -82,13 +51,13 @@ fn read_system(
     values: Numbers,
     l: Lengths,
     w: &mut [i64],
-) -> Step
+) -> Result<Cursor, BrokenLine>
     requires { Waiting Kind.System r series values l s.now c w.old }
     ensures { Read s.now c (lines_of Kind.System series values r) 0 w.old w.new result }
 {
-    let matrix = lines::read_matrix(s, c, b'A', r, r, series, w, 0);
-    let right = rows_behind(s, matrix, b"b", r, series, w, l.one);
-    line_behind(s, right, b"v", values, w, l.one + l.two)
+    let matrix = lines::read_matrix(s, c, b'A', r, r, series, w, 0)?;
+    let right = lines::read_rows(s, matrix, b"b", 1, r, series, w, l.one)?;
+    lines::read_line(s, right, b"v", values, w, l.one + l.two)
 }
 
 // The lines of a basis behind line 1: A, V.
@@ -100,12 +69,12 @@ fn read_basis(
     values: Numbers,
     l: Lengths,
     w: &mut [i64],
-) -> Step
+) -> Result<Cursor, BrokenLine>
     requires { Waiting Kind.Basis r series values l s.now c w.old }
     ensures { Read s.now c (lines_of Kind.Basis series values r) 0 w.old w.new result }
 {
-    let matrix = lines::read_matrix(s, c, b'A', r, r, series, w, 0);
-    rows_behind(s, matrix, b"V", r, values, w, l.one)
+    let matrix = lines::read_matrix(s, c, b'A', r, r, series, w, 0)?;
+    lines::read_rows(s, matrix, b"V", 1, r, values, w, l.one)
 }
 
 // The lines of an equation behind line 1: a, b, start.
@@ -117,13 +86,13 @@ fn read_equation(
     values: Numbers,
     l: Lengths,
     w: &mut [i64],
-) -> Step
+) -> Result<Cursor, BrokenLine>
     requires { Waiting Kind.Equation r series values l s.now c w.old }
     ensures { Read s.now c (lines_of Kind.Equation series values r) 0 w.old w.new result }
 {
-    let rows = lines::read_rows(s, c, b"a", 0, r + 1, series, w, 0);
-    let right = line_behind(s, rows, b"b", series, w, l.one);
-    line_behind(s, right, b"start", values, w, l.one + l.two)
+    let rows = lines::read_rows(s, c, b"a", 0, r + 1, series, w, 0)?;
+    let right = lines::read_line(s, rows, b"b", series, w, l.one)?;
+    lines::read_line(s, right, b"start", values, w, l.one + l.two)
 }
 
 // The lines behind line 1.
@@ -136,7 +105,7 @@ pub fn read_lines(
     values: Numbers,
     l: Lengths,
     w: &mut [i64],
-) -> Step
+) -> Result<Cursor, BrokenLine>
     requires { Waiting kind r series values l s.now c w.old }
     ensures { Read s.now c (lines_of kind series values r) 0 w.old w.new result }
 {

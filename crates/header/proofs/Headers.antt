@@ -1,19 +1,18 @@
 -- Line 1: the header's numbers are three numbers behind the fields that lead, so the text decides them, and reading
 -- three numbers there is reading the header.
 -- Assumes nothing.
-use mathlib.Core.Path.{◌≡◌, refl, sym, ap, subst, ◌∙◌}
-use mathlib.Core.List.{List, [], ◌∷◌, ◌++◌, append_assoc, append-nil}
-use Prim.Native.Nat.{ℕ, zero, suc, ◌+◌, ◌<◌}
-use native.Mathlib.Omega.{arith}
-use lib.IntN.{ℤ, pos}
-use lib.ListN.{drop}
+use Rattle.std.proofs.Common.{Result, Ok, Err, None, ◌≡◌, refl, sym, ap, subst, ◌∙◌, List, [], ◌∷◌, ◌++◌}
+use Rattle.std.proofs.Common.{append_assoc, append-nil, ℕ, zero, suc, ◌+◌, ◌<◌, arith, ℤ, pos, drop}
+use Rattle.std.specs.Result.{result_ok}
+use Rattle.std.proofs.lemmas.Option.{none-some}
 use Rattle.job.specs.declared.Kind.{Kind}
 use Rattle.text.specs.Decimal.{digits}
 use Rattle.text.specs.Lines.{Form, Within, items, lines, total, Ranged, Begins}
 use Rattle.text.proofs.Lines.{begins_same}
 use Rattle.lines.specs.Forms.{shaped}
 use Rattle.cursor.specs.declared.Cursor.{Cursor}
-use Rattle.lines.specs.Steps.{nth, Passed, Breaks}
+use Rattle.lines.specs.declared.BrokenLine.{BrokenLine}
+use Rattle.lines.specs.Steps.{nth, Passed, Read}
 use Rattle.lines.proofs.Passes.{broken-one}
 use Rattle.header.specs.declared.Header.{Header}
 use Rattle.header.specs.Header.{header_form, TenDigits}
@@ -114,9 +113,13 @@ module _ {s : List ℕ} {c : Cursor} {lead : List ℕ} {old new : List ℤ} (zer
       begins = three_header from_start h m.order m.terms m.modulus;
     }
 
-  pub header-none : {number : ℕ} → Breaks s c (three_form lead ∷ []) 0 old new number
+-- and not so read
+module _ (s : List ℕ) (c : Cursor) (lead : List ℕ) (old new : List ℤ) (zero-byte : c.byte ≡ 0) where
+  pub header-none : (r : Result Cursor BrokenLine) → result_ok r ≡ None
+      → Read s c (three_form lead ∷ []) 0 old new r
       → (h : Header) (z : ℕ → ℤ) (t : List ℕ) → TenDigits h → Begins s (header_form lead h ∷ []) z 0 t → ⊥
-  header-none q h z t d b =
-      let three = three_of {lead = lead} d b in
+  header-none (Ok d) e q h z t k b = none-some d (sym e)
+  header-none (Err x) e q h z t k b =
+      let three = three_of {lead = lead} k b in
       broken-one q (header_numbers h) t
-      (subst (λ (k : ℕ). Begins (drop k s) (three_form lead ∷ []) (header_numbers h) 0 t) (sym zero-byte) three)
+      (subst (λ (i : ℕ). Begins (drop i s) (three_form lead ∷ []) (header_numbers h) 0 t) (sym zero-byte) three)

@@ -1,13 +1,11 @@
 -- What reading line 1 finds: three numbers behind the fields that lead.
 -- Assumes nothing.
-use Rattle.std.specs.Prelude.{◌≡◌, List, [], ◌∷◌, ℕ, ◌<◌, ℤ, pos, drop}
+use Rattle.std.specs.Prelude.{◌≡◌, List, [], ◌∷◌, ℕ, ◌<◌, ℤ, pos, drop, Option, Some, None}
 use Rattle.job.specs.declared.Kind.{Kind}
 use Rattle.text.specs.Lines.{Within, Begins}
 use Rattle.cursor.specs.declared.Cursor.{Cursor}
 use Rattle.lines.specs.Steps.{nth, Placed}
 use Rattle.header.specs.declared.Header.{Header}
-use Rattle.header.specs.declared.Opening.{Opening}
-use Rattle.header.specs.declared.Opening.TheVariants as opening
 use Rattle.header.specs.Header.{header_form, TenDigits}
 
 -- three numbers of at most 10 digits
@@ -30,7 +28,7 @@ pub record Opens (lead s : List ℕ) (h : Header) (c : Cursor) : Type 0 where
   pub begins : (z : ℕ → ℤ) → Begins s (header_form lead h ∷ []) z 0 (drop c.byte s)
 
 -- a header of one kind, or none
-abbrev pub OpenedAs : Kind → List ℕ → List ℕ → Opening → Type 0
-OpenedAs kind lead s (opening.Is h c) = (h.kind ≡ kind) × Opens lead s h c
-OpenedAs kind lead s opening.Not =
+abbrev pub OpenedAs : Kind → List ℕ → List ℕ → Option (Header × Cursor) → Type 0
+OpenedAs kind lead s (Some (h, c)) = (h.kind ≡ kind) × Opens lead s h c
+OpenedAs kind lead s None =
     (h : Header) (z : ℕ → ℤ) (t : List ℕ) → TenDigits h → Begins s (header_form lead h ∷ []) z 0 t → ⊥

@@ -1,13 +1,11 @@
 // Line 1 of a sheet: what it says, and the place behind it.
 #![tactic(auto)]
 
-ghost use Rattle.std.specs.Prelude.{◌≡◌, pos};
-ghost use Rattle.text.specs.Lines.{Within};
 ghost use Rattle.header.specs.Opened.{Tens, Named, OpenedAs};
 
 use cursor::Cursor;
 use job::Kind;
-use lines::{Numbers, Step};
+use lines::Numbers;
 
 // What line 1 of a sheet says.
 #[derive(Clone, Copy)]
@@ -18,20 +16,6 @@ pub struct Header {
     pub p: u64,
 }
 
-// What line 1 says, and the place behind it.
-#[derive(Clone, Copy)]
-pub enum Opening {
-    Is(Header, Cursor),
-    Not,
-}
-
-fn whole(x: i64) -> u64
-    requires { Within 0 9999999999 x }
-    ensures { x ≡ pos result }
-{
-    x as u64
-}
-
 // The header of a kind and three numbers.
 fn make_header(kind: Kind, w: [i64; 3]) -> Header
     requires { Tens w }
@@ -39,14 +23,14 @@ fn make_header(kind: Kind, w: [i64; 3]) -> Header
 {
     Header {
         kind,
-        r: whole(w[0]),
-        n: whole(w[1]),
-        p: whole(w[2]),
+        r: w[0] as u64,
+        n: w[1] as u64,
+        p: w[2] as u64,
     }
 }
 
 // Line 1 of a sheet of one kind, whose first fields are `lead`.
-pub fn open_as(s: &[u8], kind: Kind, lead: &[u8]) -> Opening
+pub fn open_as(s: &[u8], kind: Kind, lead: &[u8]) -> Option<(Header, Cursor)>
     ensures { OpenedAs kind lead.now s.now result }
 {
     let c = Cursor {
@@ -60,8 +44,6 @@ pub fn open_as(s: &[u8], kind: Kind, lead: &[u8]) -> Opening
         high: 9999999999,
     };
     let mut w = [0i64; 3];
-    match lines::read_line(s, c, lead, n, &mut w, 0) {
-        Step::Next(d) => Opening::Is(make_header(kind, w), d),
-        Step::Broken(_) => Opening::Not,
-    }
+    let d = lines::read_line(s, c, lead, n, &mut w, 0).ok()?;
+    Some((make_header(kind, w), d))
 }

@@ -1,17 +1,12 @@
 -- Lines in blocks of the same shape, read one block after the other: the rows of a list, and the rows of a matrix.
 -- Assumes nothing.
-use mathlib.Core.Path.{◌≡◌, sym, ap, subst, ◌∙◌}
-use mathlib.Core.List.{List, [], ◌∷◌, ◌++◌}
-use Prim.Native.Nat.{ℕ, zero, suc, ◌+◌, ◌*◌, ◌<◌, ◌≤◌}
-use native.Mathlib.Nat.{suc-mul, mul-le-mul_right}
-use native.Mathlib.Decide.{ℕ_discrete}
-use native.Mathlib.Numerals.{add-one}
-use native.Mathlib.Omega.{arith}
-use lib.IntN.{ℤ}
+use Rattle.std.proofs.Common.{Result, ◌≡◌, sym, ap, subst, ◌∙◌, List, [], ◌∷◌, ◌++◌, ℕ, zero, suc, ◌+◌, ◌*◌, ◌<◌, ◌≤◌}
+use Rattle.std.proofs.Common.{suc-mul, mul-le-mul_right, add-one, arith, ℤ}
+use Rattle.std.proofs.Math.Decide.{ℕ_discrete}
 use Rattle.text.specs.Lines.{Form, total}
 use Rattle.cursor.specs.declared.Cursor.{Cursor}
 use Rattle.lines.specs.declared.Numbers.{Numbers}
-use Rattle.lines.specs.declared.Step.{Step}
+use Rattle.lines.specs.declared.BrokenLine.{BrokenLine}
 use Rattle.lines.specs.Forms.{numbered, row_forms, matrix_forms}
 use Rattle.lines.specs.Steps.{form_of, Passed, Breaks, Read}
 use Rattle.lines.proofs.Forms.{rows_snoc, matrix_snoc, total-rows, total-matrix}
@@ -25,7 +20,7 @@ block_within k m step h = omega (arith, mul-le-mul_right {m = suc k} {n = m} ste
 module _ (F G : ℕ → List Form) (snoc : (k : ℕ) → F (suc k) ≡ F k ++ G k) where
   blocks_read
       : {s : List ℕ} {c d : Cursor} (k i : ℕ) {old mid : List ℤ} → Passed s c (F k) i old mid d
-      → (new : List ℤ) (j : ℕ) → i + total (F k) ≡ j → (r : Step) → Read s d (G k) j mid new r
+      → (new : List ℤ) (j : ℕ) → i + total (F k) ≡ j → (r : Result Cursor BrokenLine) → Read s d (G k) j mid new r
       → Read s c (F (k + 1)) i old new r
   blocks_read {s} {c} k i {old} p new j at r q =
       let e : F (k + 1) ≡ F k ++ G k = ap F (add-one k) ∙ snoc k in
@@ -50,7 +45,8 @@ module _ (n : Numbers) (h : List ℕ) {s : List ℕ} {c : Cursor} {i : ℕ} {old
   module _ (first k : ℕ) where
     pub rows_next
         : {d : Cursor} {mid : List ℤ} → Passed s c (row_forms (form_of n) h first k) i old mid d
-        → (new : List ℤ) (r : Step) → Read s d (form_of n (numbered h (first + k)) ∷ []) (i + k * n.count) mid new r
+        → (new : List ℤ) (r : Result Cursor BrokenLine)
+        → Read s d (form_of n (numbered h (first + k)) ∷ []) (i + k * n.count) mid new r
         → Read s c (row_forms (form_of n) h first (k + 1)) i old new r
     rows_next p new r q =
         let e = ap (λ (m : ℕ). i + m) (total-rows n.count n.low n.high h first k) in
@@ -69,7 +65,7 @@ module _ (n : Numbers) (h : List ℕ) {s : List ℕ} {c : Cursor} {i : ℕ} {old
   module _ (columns k : ℕ) where
     pub matrix_next
         : {d : Cursor} {mid : List ℤ} → Passed s c (matrix_forms (form_of n) h columns 1 k) i old mid d
-        → (row : List ℕ) → row ≡ numbered h (1 + k) → (new : List ℤ) (r : Step)
+        → (row : List ℕ) → row ≡ numbered h (1 + k) → (new : List ℤ) (r : Result Cursor BrokenLine)
         → Read s d (row_forms (form_of n) row 1 columns) (i + k * (columns * n.count)) mid new r
         → Read s c (matrix_forms (form_of n) h columns 1 (k + 1)) i old new r
     matrix_next p row head new r q =

@@ -1,11 +1,7 @@
 -- Rows and matrices of lines: one row more at the end, and how many lines and numbers they have.
 -- Assumes nothing.
-use mathlib.Core.Path.{◌≡◌, refl, sym, ap, ◌∙◌}
-use mathlib.Core.List.{List, [], ◌∷◌, ◌++◌, append_assoc, append-nil}
-use Prim.Native.Nat.{ℕ, zero, suc, ◌+◌, ◌*◌, ◌<◌}
-use native.Mathlib.Nat.{suc-mul, zero-mul}
-use native.Mathlib.Omega.{arith}
-use lib.ListN.{length}
+use Rattle.std.proofs.Common.{◌≡◌, refl, sym, ap, ◌∙◌, List, [], ◌∷◌, ◌++◌, append_assoc, append-nil, ℕ, zero, suc}
+use Rattle.std.proofs.Common.{◌+◌, ◌*◌, ◌<◌, suc-mul, zero-mul, arith, length}
 use Rattle.text.specs.Lines.{Form, total}
 use Rattle.text.proofs.Digits.{digits-small}
 use Rattle.text.proofs.Lines.{total-append}

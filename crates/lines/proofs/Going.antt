@@ -1,23 +1,16 @@
 -- The numbers of a line, read one after the other: `Going` holds of the first j of them, from the start over each next
 -- number to the line feed.
 -- Assumes nothing.
-use mathlib.Core.Path.{◌≡◌, refl, sym, ap, ◌∙◌}
-use mathlib.Core.List.{List, [], ◌∷◌, ◌++◌, append_assoc}
-use Prim.Native.Nat.{ℕ, suc, ◌+◌, ◌-◌, ◌<◌, ◌≤◌}
-use native.Mathlib.Decide.{ℕ_discrete}
-use native.Mathlib.Omega.{arith}
-use native.Mathlib.Numerals.{add-one}
-use lib.IntN.{ℤ, pos}
-use lib.ListN.{length, get_or, drop, set, length-set}
-use lib.Seq.{get_or-set_same, get_or-set_other, drop-cons}
+use Rattle.std.proofs.Common.{Some, None, ◌≡◌, refl, sym, ap, ◌∙◌, List, [], ◌∷◌, ◌++◌, append_assoc, ℕ, suc, ◌+◌}
+use Rattle.std.proofs.Common.{◌-◌, ◌<◌, ◌≤◌, arith, add-one, ℤ, pos, length, drop, set, length-set, get_or-set_same}
+use Rattle.std.proofs.Common.{get_or-set_other}
+use Rattle.std.proofs.Math.Decide.{ℕ_discrete}
 use Rattle.text.specs.Decimal.{spell}
 use Rattle.text.specs.Lines.{Form, Within, items, line}
 use Rattle.text.proofs.Lines.{items_stop, items_snoc, items_ext, items_front, line_cut}
 use Rattle.lines.specs.Forms.{shaped}
 use Rattle.cursor.specs.declared.Cursor.{Cursor}
-use Rattle.lines.specs.declared.Item.TheVariants as item
 use Rattle.lines.specs.Steps.{nth, Placed, Itemed, Passed, Breaks}
-use Rattle.lines.proofs.Bytes.{byte_none, byte_first}
 use Rattle.lines.proofs.Passes.{line_passed, line-broken}
 
 -- j numbers are read, from the place c to the place d, and whatever numbers the line has, the rest of them stand at d
@@ -67,7 +60,7 @@ module _ {s : List ℕ} {c d : Cursor} {n low high i j : ℕ} {old new : List �
     rest z t q = let e : n - j ≡ suc (n - (j + 1)) = omega arith in rw e at (g.left z t q)
 
     pub Going-more
-        : (x : ℤ) (e : Cursor) → i + n ≤ length old → Itemed s d low high (item.Is x e)
+        : (x : ℤ) (e : Cursor) → i + n ≤ length old → Itemed s d low high (Some (x, e))
         → Going s c e f i (j + 1) old (set new (i + j) x)
     Going-more x e l w =
         let new' = set new (i + j) x in
@@ -94,7 +87,7 @@ module _ {s : List ℕ} {c d : Cursor} {n low high i j : ℕ} {old new : List �
               (rest z t q)).1;
         }
 
-    pub going_not : Itemed s d low high item.Not → Breaks s c (f ∷ []) i old new (c.line + 1)
+    pub going_not : Itemed s d low high None → Breaks s c (f ∷ []) i old new (c.line + 1)
     unfolding items
     going_not w = line-broken s c f i old new g.kept (λ z t r q.
         let others = items z (suc (i + j)) (n - (j + 1)) in
@@ -107,21 +100,15 @@ module _ {s : List ℕ} {c d : Cursor} {n low high i j : ℕ} {old new : List �
     unfolding items
     last z t q = let e : n - j ≡ 0 = omega arith in rw e at (g.left z t (q ∙ line_cut f z i t))
 
-    pub going_end : length s ≤ d.byte → Breaks s c (f ∷ []) i old new (c.line + 1)
-    going_end l = line-broken s c f i old new g.kept (λ z t r q. byte_none s d.byte 10 t l (last z t q))
+    pub going_end : ((t : List ℕ) → drop d.byte s ≡ 10 ∷ t → ⊥) → Breaks s c (f ∷ []) i old new (c.line + 1)
+    going_end b = line-broken s c f i old new g.kept (λ z t r q. b t (last z t q))
 
-    module _ (l : d.byte < length s) where
-      pub going_other : (get_or s d.byte 0 ≡ 10 → ⊥) → Breaks s c (f ∷ []) i old new (c.line + 1)
-      going_other b =
-          line-broken s c f i old new g.kept (λ z t r q. b (byte_first s d.byte 10 t l (last z t q)).0)
-
-      pub Going-done
-          : get_or s d.byte 0 ≡ 10 → c.line ≤ c.byte
-          → Passed s c (f ∷ []) i old new (record { byte = d.byte + 1; line = c.line + 1; field = 0 })
-      Going-done b o =
-          let e : j ≡ n = omega (arith, g.most) in
-          let a : d.byte + 1 ≡ suc d.byte = add-one d.byte in
-          line_passed s c f i old new g.kept (record { byte = d.byte + 1; line = c.line + 1; field = 0 })
-          (record { byte = omega arith; line = omega (arith, g.order); field = omega arith })
-          (omega (arith, g.order)) refl refl g.long (λ k p. g.ranged k (omega arith))
-          (g.read ∙ rw (e, drop-cons s d.byte 0 l, b, a) (sym (line_cut f (nth new) i (drop (suc d.byte) s))))
+    pub Going-done
+        : drop d.byte s ≡ 10 ∷ drop (d.byte + 1) s → d.byte < length s → c.line ≤ c.byte
+        → Passed s c (f ∷ []) i old new (record { byte = d.byte + 1; line = c.line + 1; field = 0 })
+    Going-done b l o =
+        let e : j ≡ n = omega (arith, g.most) in
+        line_passed s c f i old new g.kept (record { byte = d.byte + 1; line = c.line + 1; field = 0 })
+        (record { byte = omega arith; line = omega (arith, g.order); field = omega arith })
+        (omega (arith, g.order)) refl refl g.long (λ k p. g.ranged k (omega arith))
+        (g.read ∙ rw (e, b) (sym (line_cut f (nth new) i (drop (d.byte + 1) s))))

@@ -1,18 +1,14 @@
 -- Lines passed, and the first that is broken: one line; no line; lines behind lines; a line whose head was passed.
 -- Assumes nothing.
-use mathlib.Core.Path.{◌≡◌, refl, sym, ap, subst, ◌∙◌}
-use mathlib.Core.List.{List, [], ◌∷◌, ◌++◌, append_assoc, append-nil, append_cancel_left}
-use Prim.Native.Nat.{ℕ, suc, ◌+◌, ◌<◌, ◌≤◌}
-use native.Mathlib.Omega.{arith}
-use lib.IntN.{ℤ}
-use lib.ListN.{length, take, drop, length-append}
-use lib.Seq.{take-append-le, take-append-add}
+use Rattle.std.proofs.Common.{Result, Ok, Err, ◌≡◌, refl, sym, ap, subst, ◌∙◌, List, [], ◌∷◌, ◌++◌, append_assoc}
+use Rattle.std.proofs.Common.{append-nil, ℕ, suc, ◌+◌, ◌<◌, ◌≤◌, arith, ℤ, length, take, drop, length-append}
+use mathlib.Core.List.{append_cancel_left}
+use Rattle.std.proofs.Math.Seq.{take-append-le, take-append-add}
 use Rattle.text.specs.Lines.{Form, Within, items, line, lines, total, Ranged, Begins}
 use Rattle.text.proofs.Lines.{Agree, begins_append, begins_rest, begins_ext, begins_as}
 use Rattle.cursor.specs.declared.Cursor.{Cursor}
 use Rattle.lines.specs.declared.Numbers.{Numbers}
-use Rattle.lines.specs.declared.Step.{Step}
-use Rattle.lines.specs.declared.Step.TheVariants as step
+use Rattle.lines.specs.declared.BrokenLine.{BrokenLine}
 use Rattle.lines.specs.Steps.{nth, form_of, Placed, Past, Passed, Breaks, Read}
 
 -- a text that begins with one line
@@ -160,19 +156,13 @@ broken_first {fs = fs} b gs =
 -- lines read, and then others, whose numbers are stored from the index j on
 pub read_more
     : {s : List ℕ} {c d : Cursor} {fs : List Form} {i : ℕ} {old mid : List ℤ} → Passed s c fs i old mid d
-    → (gs : List Form) (new : List ℤ) (j : ℕ) → i + total fs ≡ j → (r : Step) → Read s d gs j mid new r
+    → (gs : List Form) (new : List ℤ) (j : ℕ) → i + total fs ≡ j → (r : Result Cursor BrokenLine)
+    → Read s d gs j mid new r
     → Read s c (fs ++ gs) i old new r
-read_more {s} {d = d} {mid = mid} p gs new j e (step.Next b) q =
+read_more {s} {d = d} {mid = mid} p gs new j e (Ok b) q =
     passed_more p gs new b (subst (λ (k : ℕ). Passed s d gs k mid new b) (sym e) q)
-read_more {s} {d = d} {mid = mid} p gs new j e (step.Broken number) q =
-    passed_broken p gs new number (subst (λ (k : ℕ). Breaks s d gs k mid new number) (sym e) q)
-
--- lines broken, so that others behind them are not read
-pub read_stop
-    : (s : List ℕ) (c : Cursor) (fs gs : List Form) (i : ℕ) (old new : List ℤ) (r : Step) (number : ℕ)
-    → r ≡ step.Broken number → Read s c fs i old new r → Read s c (fs ++ gs) i old new r
-read_stop s c fs gs i old new (step.Next d) number e q = absurd (let z : ◌≡◌ {A = ℕ} 0 1 = cc in omega arith)
-read_stop s c fs gs i old new (step.Broken n) number e q = broken_first q gs
+read_more {s} {d = d} {mid = mid} p gs new j e (Err b) q =
+    passed_broken p gs new b.line (subst (λ (k : ℕ). Breaks s d gs k mid new b.line) (sym e) q)
 
 -- a line whose first bytes h were passed, and whose head has the bytes `tail` behind them
 module _ {s : List ℕ} {c d : Cursor} {h : List ℕ} (p : Past s c h d) (n : Numbers) (tail whole : List ℕ)
@@ -181,13 +171,14 @@ module _ {s : List ℕ} {c d : Cursor} {h : List ℕ} (p : Past s c h d) (n : Nu
   cut z t = rw e (simp append_assoc)
 
   pub headed_read
-      : (r : Step) → Read s d (form_of n tail ∷ []) i old new r → Read s c (form_of n whole ∷ []) i old new r
-  headed_read (step.Next b) q =
+      : (r : Result Cursor BrokenLine) → Read s d (form_of n tail ∷ []) i old new r
+      → Read s c (form_of n whole ∷ []) i old new r
+  headed_read (Ok b) q =
       line_passed s c (form_of n whole) i old new q.kept b q.placed (omega (arith, p.byte, q.order))
       (omega (arith, q.line, p.line)) q.field q.long (one_range q.begins)
       (p.text ∙ ap (λ (t : List ℕ). h ++ t) (one_text q.begins) ∙ sym (cut (nth new) (drop b.byte s)))
-  headed_read (step.Broken number) q =
-      let same : c.line + 1 ≡ number = omega (arith, q.line, q.within, p.line) in
+  headed_read (Err b) q =
+      let same : c.line + 1 ≡ b.line = omega (arith, q.line, q.within, p.line) in
       subst (λ (k : ℕ). Breaks s c (form_of n whole ∷ []) i old new k) same
       (line-broken s c (form_of n whole) i old new q.kept (λ z t r w.
       let behind = append_cancel_left h _ _ (sym p.text ∙ w ∙ cut z t) in

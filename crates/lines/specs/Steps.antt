@@ -1,6 +1,7 @@
 -- What a cursor finds on its way through a text.
 -- Assumes nothing.
 use Rattle.std.specs.Prelude.{◌≡◌, cond, List, [], ◌∷◌, ◌++◌, ℕ, suc, ◌+◌, ◌≤◌, ◌<◌, ◌^◌, eqb, ℤ, pos}
+use Rattle.std.specs.Prelude.{Option, Some, None, Result, Ok, Err}
 use Rattle.std.specs.Prelude.{length, get_or, take, drop}
 use Rattle.text.specs.Decimal.{spell}
 use Rattle.text.specs.Lines.{Form, Within, Begins}
@@ -8,12 +9,7 @@ use Rattle.text.specs.Field.{Stop}
 use Rattle.lines.specs.Forms.{shaped}
 use Rattle.cursor.specs.declared.Cursor.{Cursor}
 use Rattle.lines.specs.declared.Numbers.{Numbers}
-use Rattle.lines.specs.declared.Head.{Head}
-use Rattle.lines.specs.declared.Head.TheVariants as head
-use Rattle.lines.specs.declared.Item.{Item}
-use Rattle.lines.specs.declared.Item.TheVariants as item
-use Rattle.lines.specs.declared.Step.{Step}
-use Rattle.lines.specs.declared.Step.TheVariants as step
+use Rattle.lines.specs.declared.BrokenLine.{BrokenLine}
 
 -- the number of index i in a buffer
 abbrev pub nth : List ℤ → ℕ → ℤ
@@ -50,9 +46,9 @@ pub record Past (s : List ℕ) (c : Cursor) (h : List ℕ) (d : Cursor) : Type 0
   pub field : d.field ≡ c.field + tabs h
 
 -- the bytes h at the cursor, or not
-abbrev pub Headed : List ℕ → Cursor → List ℕ → Head → Type 0
-Headed s c h (head.Is d) = Past s c h d
-Headed s c h head.Not = (t : List ℕ) → drop c.byte s ≡ h ++ t → ⊥
+abbrev pub Headed : List ℕ → Cursor → List ℕ → Option Cursor → Type 0
+Headed s c h (Some d) = Past s c h d
+Headed s c h None = (t : List ℕ) → drop c.byte s ≡ h ++ t → ⊥
 
 -- a tab and the number z stand at the cursor c, the field ends there, and d is the place behind it
 pub record Behind (s : List ℕ) (c : Cursor) (z : ℤ) (d : Cursor) : Type 0 where
@@ -64,9 +60,9 @@ pub record Behind (s : List ℕ) (c : Cursor) (z : ℤ) (d : Cursor) : Type 0 wh
   pub field : d.field ≡ c.field + 1
 
 -- a tab and a number from -low to high at the cursor, or none
-abbrev pub Itemed : List ℕ → Cursor → ℕ → ℕ → Item → Type 0
-Itemed s c low high (item.Is z d) = Within low high z × Behind s c z d
-Itemed s c low high item.Not =
+abbrev pub Itemed : List ℕ → Cursor → ℕ → ℕ → Option (ℤ × Cursor) → Type 0
+Itemed s c low high (Some (z, d)) = Within low high z × Behind s c z d
+Itemed s c low high None =
     (z : ℤ) (t : List ℕ) → Within low high z → Stop t → drop c.byte s ≡ 9 ∷ (spell z ++ t) → ⊥
 
 -- what reading wants: a cursor within the text, a range of the machine's numbers, and a buffer with so many places
@@ -98,6 +94,6 @@ pub record Breaks (s : List ℕ) (c : Cursor) (fs : List Form) (i : ℕ) (old ne
   pub none : (z : ℕ → ℤ) (t : List ℕ) → Begins (drop c.byte s) (take (suc before) fs) z i t → ⊥
 
 -- lines at the cursor, or the first that is broken
-abbrev pub Read : List ℕ → Cursor → List Form → ℕ → List ℤ → List ℤ → Step → Type 0
-Read s c fs i old new (step.Next d) = Passed s c fs i old new d
-Read s c fs i old new (step.Broken number) = Breaks s c fs i old new number
+abbrev pub Read : List ℕ → Cursor → List Form → ℕ → List ℤ → List ℤ → Result Cursor BrokenLine → Type 0
+Read s c fs i old new (Ok d) = Passed s c fs i old new d
+Read s c fs i old new (Err b) = Breaks s c fs i old new b.line

@@ -4,7 +4,7 @@ use Rattle.std.proofs.Common.{◌≡◌, List, [], ◌∷◌, ℕ, zero, suc, �
 use Rattle.job.specs.declared.Kind.{Kind}
 use Rattle.job.specs.declared.Kind.TheVariants.{System, Basis, Equation}
 use Rattle.job.specs.Job.{carried, room_of, lengths_of}
-use Rattle.refusal.specs.Checked.{Measured}
+use Rattle.refusal.specs.Checked.{Bounded, Measured}
 
 pub square-small : {r : ℕ} → r ≤ 8 → r * r ≤ 64
 square-small order = mul-le-mul order order
@@ -22,7 +22,7 @@ module _ {r n : ℕ} (order : r ≤ 8) (terms : n ≤ 4096) where
       mul-le-mul more terms
 
 -- every number of a list is within m
-abbrev Within : ℕ → List ℕ → Type 0
+abbrev pub Within : ℕ → List ℕ → Type 0
 Within m [] = Unit {0}
 Within m (x ∷ l) = (x ≤ m) × Within m l
 
@@ -30,6 +30,9 @@ within_at : (m : ℕ) (l : List ℕ) → Within m l → (k : ℕ) → get_or l k
 within_at m [] w k = omega arith
 within_at m (x ∷ l) w zero = w.0
 within_at m (x ∷ l) w (suc k) = within_at m l w.1 k
+
+pub bounded_of : (l : List ℕ) → Within 4194304 l → Bounded l
+bounded_of l w = record { within = within_at 4194304 l w }
 
 lengths_within : (kind : Kind) (r n : ℕ) → r ≤ 8 → n ≤ 4096 → Within 4194304 (lengths_of kind r n)
 unfolding lengths_of carried room_of
@@ -40,5 +43,4 @@ lengths_within Equation r n order terms = omega (arith, matrix-small order terms
 -- the lengths of a job are bounded by the limits of order and terms
 pub measured : (kind : Kind) (r n : ℕ) (l : List ℕ) → r ≤ 8 → n ≤ 4096 → l ≡ lengths_of kind r n → Measured kind r n l
 measured kind r n l order terms e =
-    let within = within_at 4194304 (lengths_of kind r n) (lengths_within kind r n order terms) in
-    record { exact = e; bounded = rw e (record { within = within }) }
+    record { exact = e; bounded = rw e (bounded_of (lengths_of kind r n) (lengths_within kind r n order terms)) }

@@ -1,9 +1,6 @@
 -- The text of rows and of matrices of lines: one row more at the end.
 -- Assumes nothing.
-use mathlib.Core.Path.{◌≡◌, sym, ap, ◌∙◌}
-use mathlib.Core.List.{List, [], ◌∷◌, ◌++◌, append-nil}
-use Prim.Native.Nat.{ℕ, suc, ◌+◌, ◌*◌}
-use lib.IntN.{ℤ}
+use Rattle.std.proofs.Common.{◌≡◌, sym, ap, ◌∙◌, List, [], ◌∷◌, ◌++◌, append-nil, ℕ, suc, ◌+◌, ◌*◌, ℤ}
 use Rattle.text.specs.Lines.{Form, line, lines}
 use Rattle.text.proofs.Lines.{lines-append}
 use Rattle.lines.specs.Forms.{shaped, numbered, row_forms, matrix_forms}

@@ -1,21 +1,17 @@
 -- What is written is a result sheet, with the header that was given and the numbers of the words, each in its range:
 -- so a reader of result sheets takes it.
 -- Assumes nothing.
-use mathlib.Core.Path.{◌≡◌, refl, sym, ap, subst, ◌∙◌}
-use mathlib.Core.List.{List, [], ◌∷◌, ◌++◌, map, flatten, append-nil}
-use Prim.Native.Nat.{ℕ, zero, suc, ◌+◌, ◌*◌, ◌≤◌, ◌<◌}
-use native.Mathlib.Decide.{ℕ_discrete}
-use native.Mathlib.Omega.{arith}
-use lib.IntN.{ℤ, pos, negsuc}
-use lib.ListN.{length, get_or, take}
-use lib.Seq.{take_at}
+use Rattle.std.proofs.Common.{◌≡◌, refl, sym, ap, subst, ◌∙◌, List, [], ◌∷◌, ◌++◌, map, append-nil, ℕ, zero, suc, ◌+◌, ◌*◌, ◌<◌, arith, ℤ, pos, negsuc, length, get_or, take, take_at, Result, Ok}
+use mathlib.Core.List.{flatten}
 use Rattle.job.specs.declared.Kind.{Kind}
 use Rattle.job.specs.declared.Kind.TheVariants.{System, Basis, Equation}
-use Rattle.job.specs.Refusal.{Verdict, done, Rule, Says}
-use Rattle.job.specs.Job.{words, bytes, word_at}
+use Rattle.job.specs.declared.Refusal.{Refusal}
+use Rattle.job.specs.Refusal.{Verdict, done, Rule, Says, verdict_of}
+use Rattle.job.specs.Job.{words, bytes}
 use Rattle.job.specs.Rules.{limit_rules, size_rules, length_rules, word_rules, read_rules}
-use Rattle.job.proofs.Accepted.{Limits}
-use Rattle.job.proofs.Says.{says_head, says_tail, says_split}
+use Rattle.job.proofs.Accepted.{Limits, length_of_lem, below_of}
+use Rattle.job.proofs.Outcomes.{words_below}
+use Rattle.job.proofs.Says.{says_tail, says_split}
 use Rattle.text.specs.Class.{Balanced}
 use Rattle.text.specs.Lines.{Within, total, Ranged}
 use Rattle.text.specs.Put.{Put}
@@ -25,8 +21,6 @@ use Rattle.lines.specs.Forms.{numbered, row_forms, matrix_forms}
 use Rattle.header.specs.declared.Header.{Header}
 use Rattle.header.specs.Header.{header}
 use Rattle.sheet.specs.Sheet.{Sheet}
-use Rattle.result.specs.declared.Written.{Written}
-use Rattle.result.specs.declared.Written.TheVariants.{Done}
 use Rattle.result.specs.ResultSheet.{
   balanced_form,
   result_lines,
@@ -35,10 +29,8 @@ use Rattle.result.specs.ResultSheet.{
   result_numbers,
   result_text,
 }
-use Rattle.result.specs.Write.{written_verdict, write_rules, WriteOutcome}
-use Rattle.result.specs.Print.{FirstOver}
-use Rattle.result.proofs.Checks.{wrong_length}
-use Rattle.result.proofs.Sizes.{residues, limits}
+use Rattle.result.specs.Write.{write_rules, WriteOutcome}
+use Rattle.result.proofs.Sizes.{limits}
 
 -- the range of a balanced number is that of its form
 abbrev InForm : ℕ → ℕ → ℤ → Type 0
@@ -75,26 +67,6 @@ module _ (p n : ℕ) (z : ℕ → ℤ) (within : (k : ℕ) → InForm p n (z k))
   unfolding result_forms Ranged
   forms_ranged kind r = ((λ j h. absurd (omega arith)), lines_ranged kind r (0 + 0))
 
--- what the silent rules say: of a length, and of the words of a buffer
-length_is : (b should : ℕ) (s : List ℕ) (rs : List Rule) → Says (wrong_length b should s ∷ rs) done → length s ≡ should
-length_is b should s rs t = elim (ℕ_discrete (length s) (1 * should)) [
-  | yes e ↦ omega arith
-  | no e ↦ absurd (says_head _ rs t e)
-]
-
-words_Small
-    : (p b : ℕ) (s : List ℕ) (i count : ℕ) → Says (word_rules words p b s i count) done
-    → (k : ℕ) → k < count → get_or s (i + k) 0 < p
-unfolding word_rules word_at
-words_Small p b s i zero t k h = absurd (omega arith)
-words_Small p b s i (suc count) t zero h =
-    let e : i + 0 ≡ i = omega arith in
-    let q : ¬ (p ≤ get_or s i 0) = says_head _ _ t in
-    rw e (omega arith)
-words_Small p b s i (suc count) t (suc k) h =
-    let e : i + suc k ≡ suc i + k = omega arith in
-    rw e (words_Small p b s (suc i) count (says_tail _ _ t) k (omega arith))
-
 -- the text of a sheet with residues as its words
 sheet_put
     : (kind : Kind) (r n p : ℕ) (lent : List (List ℕ)) {text after : List ℕ} {l : ℕ} → Limits r n p
@@ -120,18 +92,6 @@ sheet_put kind r n p lent {l = l} limits below put =
       };
     }
 
--- all words of a buffer are residues, if its length is the count and the rules of its words are silent
-buffer_below
-    : (p b : ℕ) (s : List ℕ) (count : ℕ) → 0 < p → length s ≡ count → Says (word_rules words p b s 0 count) done
-    → (k : ℕ) → get_or s k 0 < p
-buffer_below p b s count positive exact silent =
-    let none : FirstOver p s (length s) = record {
-      within = omega arith;
-      below = λ j h. let e : 0 + j ≡ j = omega arith in rw e at (words_Small p b s 0 count silent j (omega arith));
-      over = λ h. absurd (omega arith);
-    } in
-    residues positive none (omega arith)
-
 append-below
     : (p : ℕ) (y z : List ℕ) → ((k : ℕ) → get_or y k 0 < p) → ((k : ℕ) → get_or z k 0 < p) → (k : ℕ)
     → get_or (y ++ z) k 0 < p
@@ -141,11 +101,10 @@ append-below p (x ∷ y) z below more (suc k) = append-below p y z (λ j. below 
 
 -- done, so no rule holds
 none_hold
-    : {h : Header} {lent : List (List ℕ)} {text after : List ℕ} {w : Written} {l : ℕ} → WriteOutcome h lent text w after
-    → w ≡ Done l → Says (write_rules h lent text) done
-unfolding written_verdict
+    : {h : Header} {lent : List (List ℕ)} {text after : List ℕ} {w : Result ℕ Refusal} {l : ℕ}
+    → WriteOutcome h lent text w after → w ≡ Ok l → Says (write_rules h lent text) done
 none_hold {h} {lent} {text} o e =
-    subst (λ (v : Verdict). Says (write_rules h lent text) v) (ap written_verdict e) o.verdict
+    subst (λ (v : Verdict). Says (write_rules h lent text) v) (ap (verdict_of {A = ℕ}) e) o.verdict
 
 -- the silent rules of lengths: every buffer of words has its length, and so has the text
 lengths_exact
@@ -153,30 +112,34 @@ lengths_exact
     → Says (length_rules words b (ls ++ (l ∷ [])) (lent ++ (text ∷ []))) done
     → (map length lent ≡ ls) × (length text ≡ l)
 unfolding length_rules
-lengths_exact b [] [] l text e t = (refl, length_is b l text [] t)
+lengths_exact b [] [] l text e t =
+    let k = length_of_lem words b (l ∷ []) (text ∷ []) t 0 (omega arith) (omega arith) in (refl, omega arith)
 lengths_exact b [] (s ∷ lent) l text e t = absurd (omega arith)
 lengths_exact b (c ∷ ls) [] l text e t = absurd (omega arith)
 lengths_exact b (c ∷ ls) (s ∷ lent) l text e t =
     let rest = lengths_exact (suc b) ls lent l text (omega arith) (says_tail _ _ t) in
-    (rw (length_is b c s _ t, rest.0), rest.1)
+    let k : length s ≡ 1 * c =
+    length_of_lem words b (c ∷ (ls ++ (l ∷ []))) (s ∷ (lent ++ (text ∷ []))) t 0 (omega arith) (omega arith) in
+    let same : length s ≡ c = omega arith in
+    (rw (same, rest.0), rest.1)
 
 -- the silent rules of words: every word is a residue
-words_below
+all_below
     : (p b : ℕ) (ls : List ℕ) (lent : List (List ℕ)) → 0 < p → map length lent ≡ ls
     → Says (read_rules words p b (length lent) ls lent) done → (k : ℕ) → get_or (flatten lent) k 0 < p
 unfolding read_rules flatten
-words_below p b ls [] positive e t k = positive
-words_below p b [] (s ∷ lent) positive e t k = absurd (let q : ◌≡◌ {A = ℕ} 0 1 = cc in omega arith)
-words_below p b (c ∷ ls) (s ∷ lent) positive e t k =
+all_below p b ls [] positive e t k = positive
+all_below p b [] (s ∷ lent) positive e t k = absurd (let q : ◌≡◌ {A = ℕ} 0 1 = cc in omega arith)
+all_below p b (c ∷ ls) (s ∷ lent) positive e t k =
     let exact : length s ≡ c = cc in
     let others : map length lent ≡ ls = cc in
     let both = says_split (word_rules words p b s 0 c) _ t in
-    append-below p s (flatten lent) (buffer_below p b s c positive exact both.0)
-    (words_below p (suc b) ls lent positive others both.1) k
+    append-below p s (flatten lent) (words_below positive exact (below_of words p b s c both.0))
+    (all_below p (suc b) ls lent positive others both.1) k
 
 -- what is written, of as many buffers as the kind has
-module _ {h : Header} {lent : List (List ℕ)} {text after : List ℕ} {w : Written} {l : ℕ}
-    (o : WriteOutcome h lent text w after) (d : w ≡ Done l) (all : length lent ≡ length (result_lengths h)) where
+module _ {h : Header} {lent : List (List ℕ)} {text after : List ℕ} {w : Result ℕ Refusal} {l : ℕ}
+    (o : WriteOutcome h lent text w after) (d : w ≡ Ok l) (all : length lent ≡ length (result_lengths h)) where
   abbrev limited : List Rule
   limited = limit_rules h.r h.n h.p ++ size_rules bytes h.r h.n
 
@@ -203,7 +166,7 @@ module _ {h : Header} {lent : List (List ℕ)} {text after : List ℕ} {w : Writ
   pub written_below : (k : ℕ) → get_or (flatten lent) k 0 < h.p
   written_below =
       let bounds = limits h.r h.n h.p written_limits in
-      words_below h.p 1 (result_lengths h) lent (omega (arith, bounds.terms_least, bounds.few)) written_lengths
+      all_below h.p 1 (result_lengths h) lent (omega (arith, bounds.terms_least, bounds.few)) written_lengths
       silent.1
 
   pub written_sheet : Sheet result_forms (take l after) h (result_numbers h.p lent)

@@ -1,9 +1,24 @@
 -- Products: a stride, a factor, and the room of rows and of matrices of lines.
 -- Assumes nothing.
-use mathlib.Core.Path.{◌≡◌, ap, ◌∙◌}
-use Prim.Native.Nat.{ℕ, zero, suc, ◌+◌, ◌*◌, ◌≤◌, ◌<◌}
-use native.Mathlib.Nat.{zero-mul, suc-mul, mul-add, mul_comm, mul_left_comm, mul-le-mul_right}
-use native.Mathlib.Omega.{arith}
+use Rattle.std.proofs.Common.{
+  ◌≡◌,
+  ap,
+  ◌∙◌,
+  ℕ,
+  zero,
+  suc,
+  ◌+◌,
+  ◌*◌,
+  ◌≤◌,
+  ◌<◌,
+  zero-mul,
+  suc-mul,
+  mul-add,
+  mul_comm,
+  mul_left_comm,
+  mul-le-mul_right,
+  arith,
+}
 use Rattle.result.specs.Print.{line_room}
 
 pub stride : {i n : ℕ} (step : ℕ) → i < n → i * step + step ≤ n * step

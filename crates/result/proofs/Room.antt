@@ -1,15 +1,35 @@
 -- How many bytes the pieces of a result sheet take at most: 20 for a machine's number, 21 for a residue's, and so on
 -- up to the lines of a matrix.
 -- Assumes nothing.
-use mathlib.Core.Path.{◌≡◌, ap}
-use mathlib.Core.Bool.{Bool, true, false, cond}
-use mathlib.Core.List.{List, [], ◌∷◌, ◌++◌}
-use Prim.Native.Nat.{ℕ, zero, suc, ◌+◌, ◌-◌, ◌*◌, ◌<◌, ◌≤◌, ◌^◌}
-use native.Mathlib.Nat.{suc-mul}
-use native.Mathlib.Omega.{arith}
-use lib.Dec.{leb}
-use lib.IntN.{pos, neg_ℤ}
-use lib.ListN.{length, get_or, length-append}
+use Rattle.std.proofs.Common.{
+  ◌≡◌,
+  ap,
+  Bool,
+  true,
+  false,
+  cond,
+  List,
+  [],
+  ◌∷◌,
+  ◌++◌,
+  ℕ,
+  zero,
+  suc,
+  ◌+◌,
+  ◌-◌,
+  ◌*◌,
+  ◌<◌,
+  ◌≤◌,
+  ◌^◌,
+  suc-mul,
+  arith,
+  leb,
+  pos,
+  neg_ℤ,
+  length,
+  get_or,
+  length-append,
+}
 use Rattle.job.specs.declared.Kind.{Kind}
 use Rattle.job.specs.declared.Kind.TheVariants.{System, Basis, Equation}
 use Rattle.text.specs.Decimal.{digits, spell}

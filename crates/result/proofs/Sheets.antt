@@ -1,12 +1,25 @@
 -- The text of a whole result sheet: line 1, and then the lines of y, or those of Y and of Z.
 -- Assumes nothing.
-use mathlib.Core.Path.{◌≡◌, sym, ap, ◌∙◌}
-use mathlib.Core.List.{List, [], ◌∷◌, ◌++◌, flatten, append-nil}
-use Prim.Native.Nat.{ℕ, ◌+◌, ◌*◌}
-use native.Mathlib.Omega.{arith}
-use lib.IntN.{ℤ}
-use lib.ListN.{length, get_or-append}
-use lib.Seq.{get_or-append-add}
+use Rattle.std.proofs.Common.{
+  ◌≡◌,
+  sym,
+  ap,
+  ◌∙◌,
+  List,
+  [],
+  ◌∷◌,
+  ◌++◌,
+  append-nil,
+  ℕ,
+  ◌+◌,
+  ◌*◌,
+  arith,
+  ℤ,
+  length,
+  get_or-append-add,
+}
+use mathlib.Core.List.{flatten}
+use lib.ListN.{get_or-append}
 use Rattle.job.specs.declared.Kind.{Kind}
 use Rattle.job.specs.declared.Kind.TheVariants.{System, Basis, Equation}
 use Rattle.text.specs.Class.{balanced}

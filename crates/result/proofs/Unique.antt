@@ -1,37 +1,33 @@
 -- Two outcomes of a writer for one input coincide: the answers are the same, and so are the texts afterwards.
 -- Assumes nothing.
-use mathlib.Core.Path.{◌≡◌, refl, sym, ap, ◌∙◌}
-use mathlib.Core.List.{List}
-use Prim.Native.Nat.{ℕ}
-use Rattle.job.specs.Refusal.{Verdict, done, refused}
+use Rattle.std.proofs.Common.{◌≡◌, refl, sym, ap, ◌∙◌, List, ℕ, Result, Ok, Err}
+use Rattle.job.specs.declared.Refusal.{Refusal}
+use Rattle.job.specs.Refusal.{Verdict, done, refused, verdict_of}
 use Rattle.job.proofs.Says.{refused_not_done, says_unique}
-use Rattle.job.proofs.Unique.{answer_same}
+use Rattle.job.proofs.Unique.{refusal_same}
 use Rattle.header.specs.declared.Header.{Header}
-use Rattle.result.specs.declared.Written.{Written}
-use Rattle.result.specs.declared.Written.TheVariants.{Done, Refused}
-use Rattle.result.specs.Write.{written_verdict, write_rules, WriteOutcome}
+use Rattle.result.specs.Write.{write_rules, WriteOutcome}
 
 -- two refusals with one number and the same places are the same answer
-refusal_same : (v w : Written) → ¬ (written_verdict v ≡ done) → written_verdict v ≡ written_verdict w → v ≡ w
-unfolding written_verdict
-refusal_same (Done l) w q e = absurd (q refl)
-refusal_same (Refused a) (Done l) q e = absurd (q e)
-refusal_same (Refused a) (Refused b) q e = ap Refused (answer_same a b e)
+err_same : (v w : Result ℕ Refusal) → ¬ (verdict_of v ≡ done) → verdict_of v ≡ verdict_of w → v ≡ w
+err_same (Ok l) w q e = absurd (q refl)
+err_same (Err x) (Ok l) q e = absurd (q e)
+err_same (Err x) (Err y) q e = ap Err (refusal_same x y e)
 
-module _ {h : Header} {lent : List (List ℕ)} {text : List ℕ} {v w : Written} {s t : List ℕ}
+module _ {h : Header} {lent : List (List ℕ)} {text : List ℕ} {v w : Result ℕ Refusal} {s t : List ℕ}
     (a : WriteOutcome h lent text v s) (b : WriteOutcome h lent text w t) where
-  same-verdict : written_verdict v ≡ written_verdict w
+  same-verdict : verdict_of v ≡ verdict_of w
   same-verdict = says_unique (write_rules h lent text) a.verdict b.verdict
 
-  by_verdict_lem : (d : Verdict) → written_verdict v ≡ d → (v ≡ w) × (s ≡ t)
+  by_verdict_lem : (d : Verdict) → verdict_of v ≡ d → (v ≡ w) × (s ≡ t)
   by_verdict_lem done e =
       let x = a.brought e in
       let y = b.brought (sym same-verdict ∙ e) in
       (x ∙ sym y, (a.written _ x).is ∙ sym (b.written _ y).is)
   by_verdict_lem (refused number first second) e = (
-    refusal_same v w (λ d. refused_not_done number first second (sym e ∙ d)) same-verdict,
+    err_same v w (λ d. refused_not_done number first second (sym e ∙ d)) same-verdict,
     a.kept number first second e ∙ sym (b.kept number first second (sym same-verdict ∙ e)),
   )
 
   pub outcome_unique : (v ≡ w) × (s ≡ t)
-  outcome_unique = by_verdict_lem (written_verdict v) refl
+  outcome_unique = by_verdict_lem (verdict_of v) refl

@@ -1,4 +1,4 @@
--- A verdict as three numbers; what the functions that print ask for and print; what the tests of a writer find.
+-- A verdict as three numbers; what the functions that print ask for and print.
 -- Assumes nothing.
 use Rattle.std.specs.Prelude.{◌≡◌, refl, List, ℕ, ◌+◌, ◌*◌, ◌≤◌, ◌<◌, ◌^◌, ℤ, length, get_or}
 use Rattle.job.specs.declared.Kind.{Kind}
@@ -20,10 +20,9 @@ places_example = refl
 abbrev pub number_at : ℕ → List ℕ → ℕ → ℤ
 number_at p s k = balanced (get_or s k 0) p
 
--- count words from the index `from` on can be printed modulo p, and d has room for so many bytes from `at` on
-pub record Ready (p : ℕ) (s : List ℕ) (from count : ℕ) (d : List ℕ) (at bytes : ℕ) : Type 0 where
+-- the words s can be printed modulo p, and d has room for so many bytes from `at` on
+pub record Ready (p : ℕ) (s d : List ℕ) (at bytes : ℕ) : Type 0 where
   pub below : (k : ℕ) → get_or s k 0 < p
-  pub words : from + count ≤ length s
   pub room : at + bytes ≤ length d
 
 -- room for a line: its head up to the last number there, 22 bytes for that number and the line feed, and 22 for each
@@ -41,18 +40,13 @@ Rows Equation r rows = rows ≡ 1
 pub record VectorReady (kind : Kind) (r rows n p : ℕ) (y d : List ℕ) : Type 0 where
   pub order : Rows kind r rows
   pub modulus : p < 2 ^ 32
-  pub ready : Ready p y 0 (rows * n) d 79 (rows * line_room 1 n)
+  pub exact : length y ≡ rows * n
+  pub ready : Ready p y d 79 (rows * line_room 1 n)
 
 -- Y, and Z behind it, can be printed behind line 1
 pub record BasisReady (r n p : ℕ) (y z d : List ℕ) : Type 0 where
   pub order : r ≤ 8
   pub modulus : p < 2 ^ 32
-  pub exact : length y ≡ r * (r * n)
-  pub first : Ready p y 0 (r * (r * n)) d 79 (r * (r * line_room 3 n))
-  pub second : Ready p z 0 (r * (r * n)) d (79 + r * (r * line_room 3 n)) (r * (r * line_room 3 n))
-
--- the first word that is p or more is at k, or there is none and k is the length
-pub record FirstOver (p : ℕ) (s : List ℕ) (k : ℕ) : Type 0 where
-  pub within : k ≤ length s
-  pub below : (j : ℕ) → j < k → get_or s j 0 < p
-  pub over : k < length s → p ≤ get_or s k 0
+  pub exact : (length y ≡ r * (r * n)) × (length z ≡ r * (r * n))
+  pub first : Ready p y d 79 (r * (r * line_room 3 n))
+  pub second : Ready p z d (79 + r * (r * line_room 3 n)) (r * (r * line_room 3 n))

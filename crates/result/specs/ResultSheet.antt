@@ -3,8 +3,8 @@
 --   basis: all `Y i j c_0 ..` lines, row by row, and then all `Z i j c_0 ..` lines;
 --   equation: the one line `y 1 c_0 ..`.
 -- Assumes nothing.
-use Rattle.std.specs.Prelude.{◌≡◌, refl, ℕ, ◌-◌, ◌*◌, ◌/◌, ℤ, get_or}
-use mathlib.Core.List.{List, [], ◌∷◌, ◌++◌, flatten}
+use Rattle.std.specs.Prelude.{◌≡◌, refl, ℕ, ◌-◌, ◌*◌, ◌/◌, ℤ, get_or, List, [], ◌∷◌, ◌++◌}
+use mathlib.Core.List.{flatten}
 use Rattle.job.specs.declared.Kind.{Kind}
 use Rattle.job.specs.declared.Kind.TheVariants.{System, Basis, Equation}
 use Rattle.text.specs.Decimal.{digits, digits_up_to}

@@ -1,8 +1,9 @@
-// Result sheets: the writer. And the number and the places that an answer is told by.
+// Result sheets: the writer, which answers with the text's length in bytes. And the number and the places that an
+// answer is told by.
 #![tactic(auto)]
 
 ghost use Rattle.std.specs.Prelude.{◌≡◌, [], ◌∷◌, ◌++◌, ◌+◌, ◌*◌, ◌≤◌, ◌<◌, length};
-ghost use Rattle.job.specs.Refusal.{verdict_of};
+ghost use Rattle.job.specs.Refusal.{refusal_verdict, verdict_of};
 ghost use Rattle.job.specs.declared.Kind.TheVariants.{System, Basis, Equation};
 ghost use Rattle.text.specs.Decimal.{digits, spell};
 ghost use Rattle.text.specs.Class.{balanced};
@@ -12,38 +13,43 @@ ghost use Rattle.lines.specs.Forms.{numbered, row_forms, matrix_forms};
 ghost use Rattle.header.specs.Header.{header, header_form};
 ghost use Rattle.result.specs.ResultSheet.{balanced_form, result_words, result_text};
 ghost use Rattle.result.specs.Print.{places_of, number_at, Ready, line_room, Rows, VectorReady, BasisReady};
-ghost use Rattle.result.specs.Print.{FirstOver};
 ghost use Rattle.result.specs.Write.{WriteOutcome};
 
-use job::{Answer, Kind};
-
-// What a writer of result sheets answers: done, with the text's length in bytes, or why not. `written_verdict` of
-// specs/ gives document 01's number and places for each.
-#[derive(Clone, Copy)]
-pub enum Written {
-    Done { length: usize },
-    Refused(Answer),
-}
+use job::{Kind, Refusal};
 
 // Number, first place and second place.
 #[derive(Clone, Copy)]
-pub struct Places(pub u8, pub u8, pub u32);
+pub struct Places(pub u8, pub usize, pub u32);
 
-// The number and the places of an answer: 0 where not named, and three zeros for done.
-pub fn place(a: Answer) -> Places
+// The number and the places of a refusal: 0 where not named.
+impl From<Refusal> for Places {
+    ghost from_gives = { λ e q. q ≡ places_of (refusal_verdict e) };
+
+    #[tactic(auto, unfolding(crate::specs::Print::places_of, job::specs::Refusal::refusal_verdict))]
+    fn from(refusal: Refusal) -> Places {
+        match refusal {
+            Refusal::Order => Places(1, 0, 0),
+            Refusal::Terms => Places(2, 0, 0),
+            Refusal::Modulus => Places(3, 0, 0),
+            Refusal::TermsOverModulus => Places(4, 0, 0),
+            Refusal::Length { buffer } => Places(5, usize::from(buffer), 0),
+            Refusal::Word { buffer, index } => Places(6, usize::from(buffer), index),
+            Refusal::Singular => Places(7, 0, 0),
+            Refusal::LeadingZero => Places(8, 0, 0),
+            Refusal::Form { line } => Places(9, line, 0),
+            Refusal::Large => Places(10, 0, 0),
+        }
+    }
+}
+
+// The number and the places of an answer: three zeros for done.
+#[tactic(auto, unfolding(crate::specs::Print::places_of))]
+pub fn place(a: Result<(), Refusal>) -> Places
     ensures { result ≡ places_of (verdict_of a) }
 {
     match a {
-        Answer::Done => Places(0, 0, 0),
-        Answer::Order => Places(1, 0, 0),
-        Answer::Terms => Places(2, 0, 0),
-        Answer::Modulus => Places(3, 0, 0),
-        Answer::TermsOverModulus => Places(4, 0, 0),
-        Answer::Length { buffer } => Places(5, buffer, 0),
-        Answer::Word { buffer, index } => Places(6, buffer, index),
-        Answer::Singular => Places(7, 0, 0),
-        Answer::LeadingZero => Places(8, 0, 0),
-        Answer::Large => Places(10, 0, 0),
+        Ok(()) => Places(0, 0, 0),
+        Err(refusal) => Places::from(refusal),
     }
 }
 
@@ -52,12 +58,9 @@ pub fn put_bytes(d: &mut [u8], at: usize, h: &[u8]) -> usize
     requires { at + length h.now ≤ length d.old }
     ensures { Put at h.now d.old d.new result }
 {
-    let mut i = 0;
-    while i < h.len() {
-        d[at + i] = h[i];
-        i += 1;
-    }
-    at + i
+    let end = at + h.len();
+    d[at..end].copy_from_slice(h);
+    end
 }
 
 // A tab and the digits of x.
@@ -90,63 +93,51 @@ fn put_class(d: &mut [u8], at: usize, c: u32, p: u32) -> usize
     text::put_number(d, a, text::balance(c, p))
 }
 
-// The numbers of count words from the index `from` on, and the line feed.
-fn put_numbers(d: &mut [u8], at: usize, s: &[u32], from: usize, count: usize, p: u32) -> usize
-    requires { Ready p s.now from count d.old at (22 * count + 1) }
-    ensures { Put at (items (number_at p s.now) from count ++ (10 ∷ []))
+// The numbers of the words s, and the line feed.
+fn put_numbers(d: &mut [u8], at: usize, s: &[u32], p: u32) -> usize
+    requires { Ready p s.now d.old at (22 * length s.now + 1) }
+    ensures { Put at (items (number_at p s.now) 0 (length s.now) ++ (10 ∷ []))
         d.old d.new result }
 {
     let mut e = at;
-    let mut k = 0;
-    while k < count {
-        e = put_class(d, e, s[from + k], p);
-        k += 1;
+    for c in s {
+        e = put_class(d, e, *c, p);
     }
     text::put_byte(d, e, 10)
 }
 
-// The line with the head h, the number i, and the numbers of count words from the index `from` on.
-fn put_row(
-    d: &mut [u8],
-    at: usize,
-    h: &[u8],
-    i: usize,
-    s: &[u32],
-    from: usize,
-    count: usize,
-    p: u32,
-) -> usize
-    requires { Ready p s.now from count d.old at (line_room (length h.now) count) }
+// The line with the head h, the number i, and the numbers of the words s.
+fn put_row(d: &mut [u8], at: usize, h: &[u8], i: usize, s: &[u32], p: u32) -> usize
+    requires { Ready p s.now d.old at (line_room (length h.now) (length s.now)) }
     ensures { Put at
-        (line (balanced_form p count (numbered h.now i)) (number_at p s.now) from)
+        (line (balanced_form p (length s.now) (numbered h.now i)) (number_at p s.now) 0)
         d.old d.new result }
 {
     let a = put_bytes(d, at, h);
     let b = put_field(d, a, i as u64);
-    put_numbers(d, b, s, from, count, p)
+    put_numbers(d, b, s, p)
 }
 
-// Such lines, one for each row from 1 on.
+// Such lines, one for each row of count words, from 1 on.
 fn put_rows(
     d: &mut [u8],
     at: usize,
     h: &[u8],
     rows: usize,
     s: &[u32],
-    from: usize,
     count: usize,
     p: u32,
 ) -> usize
-    requires { Ready p s.now from (rows * count) d.old at (rows * line_room (length h.now) count) }
+    requires { (length s.now ≡ rows * count)
+        × Ready p s.now d.old at (rows * line_room (length h.now) count) }
     ensures { Put at
-        (lines (row_forms (balanced_form p count) h.now 1 rows) (number_at p s.now) from)
+        (lines (row_forms (balanced_form p count) h.now 1 rows) (number_at p s.now) 0)
         d.old d.new result }
 {
     let mut e = at;
-    let mut i = 0;
-    while i < rows {
-        e = put_row(d, e, h, i + 1, s, from + i * count, count, p);
-        i += 1;
+    for i in 0..rows {
+        let row = &s[i * count..(i + 1) * count];
+        e = put_row(d, e, h, i + 1, row, p);
     }
     e
 }
@@ -161,19 +152,18 @@ fn put_matrix(
     count: usize,
     p: u32,
 ) -> usize
-    requires { (order ≤ 8)
-        × Ready p s.now 0 (order * (order * count)) d.old at (order * (order * line_room 3 count)) }
+    requires { (order ≤ 8) × (length s.now ≡ order * (order * count))
+        × Ready p s.now d.old at (order * (order * line_room 3 count)) }
     ensures { Put at
         (lines (matrix_forms (balanced_form p count) (word ∷ []) order 1 order) (number_at p s.now) 0)
         d.old d.new result }
 {
     let step = order * count;
     let mut e = at;
-    let mut i = 0;
-    while i < order {
+    for i in 0..order {
         let h = [word, 9, 49 + i as u8];
-        e = put_rows(d, e, &h, order, s, i * step, count, p);
-        i += 1;
+        let row = &s[i * step..(i + 1) * step];
+        e = put_rows(d, e, &h, order, row, count, p);
     }
     e
 }
@@ -207,7 +197,7 @@ fn put_vector(d: &mut [u8], kind: Kind, rows: usize, r: u64, n: u64, p: u64, y: 
         d.old d.new result }
 {
     let a = put_header(d, kind, r, n, p);
-    put_rows(d, a, b"y", rows, y, 0, n as usize, p as u32)
+    put_rows(d, a, b"y", rows, y, n as usize, p as u32)
 }
 
 // The sheet of Y and Z.
@@ -224,20 +214,6 @@ fn put_basis(d: &mut [u8], r: u64, n: u64, p: u64, y: &[u32], z: &[u32]) -> usiz
     put_matrix(d, b, b'Z', order, z, terms, modulus)
 }
 
-// The index of the first word that is p or more, or the length where there is none.
-fn find_over(s: &[u32], p: u32) -> usize
-    ensures { FirstOver p s.now result }
-{
-    let mut k = 0;
-    while k < s.len() {
-        if s[k] >= p {
-            return k;
-        }
-        k += 1;
-    }
-    k
-}
-
 // The writer for y of so many rows.
 fn write_vector(
     kind: Kind,
@@ -247,35 +223,20 @@ fn write_vector(
     p: u64,
     y: &[u32],
     text: &mut [u8],
-) -> Written
+) -> Result<usize, Refusal>
     requires { Rows kind r rows }
     ensures { WriteOutcome (header kind r n p) (y.now ∷ [])
         text.old result text.new }
 {
-    let limits = refusal::check_small(r, n, p);
-    let Answer::Done = limits else {
-        return Written::Refused(limits);
-    };
+    refusal::check_small(r, n, p)?;
     let count = (rows * n) as usize;
-    if y.len() != count {
-        return Written::Refused(Answer::Length { buffer: 1 });
-    }
-    if text.len() != 65536 {
-        return Written::Refused(Answer::Length { buffer: 2 });
-    }
-    let k = find_over(y, p as u32);
-    if k < count {
-        return Written::Refused(Answer::Word {
-            buffer: 1,
-            index: k as u32,
-        });
-    }
-    let length = put_vector(text, kind, rows as usize, r, n, p, y);
-    Written::Done { length }
+    refusal::check_lengths(1, [count, 65536], [y.len(), text.len()])?;
+    refusal::check_buffer(p as u32, 1, y, count)?;
+    Ok(put_vector(text, kind, rows as usize, r, n, p, y))
 }
 
 // The result sheet of a system, y of r rows with n terms each.
-pub fn write_system(r: u64, n: u64, p: u64, y: &[u32], text: &mut [u8]) -> Written
+pub fn write_system(r: u64, n: u64, p: u64, y: &[u32], text: &mut [u8]) -> Result<usize, Refusal>
     ensures { WriteOutcome (header System r n p) (y.now ∷ [])
         text.old result text.new }
 {
@@ -283,7 +244,7 @@ pub fn write_system(r: u64, n: u64, p: u64, y: &[u32], text: &mut [u8]) -> Writt
 }
 
 // The result sheet of an equation, y of n terms.
-pub fn write_equation(r: u64, n: u64, p: u64, y: &[u32], text: &mut [u8]) -> Written
+pub fn write_equation(r: u64, n: u64, p: u64, y: &[u32], text: &mut [u8]) -> Result<usize, Refusal>
     ensures { WriteOutcome (header Equation r n p) (y.now ∷ [])
         text.old result text.new }
 {
@@ -291,38 +252,22 @@ pub fn write_equation(r: u64, n: u64, p: u64, y: &[u32], text: &mut [u8]) -> Wri
 }
 
 // The result sheet of a basis, Y and Z of r rows and columns with n terms each.
-pub fn write_basis(r: u64, n: u64, p: u64, y: &[u32], z: &[u32], text: &mut [u8]) -> Written
+pub fn write_basis(
+    r: u64,
+    n: u64,
+    p: u64,
+    y: &[u32],
+    z: &[u32],
+    text: &mut [u8],
+) -> Result<usize, Refusal>
     ensures { WriteOutcome (header Basis r n p) (y.now ∷ z.now ∷ [])
         text.old result text.new }
 {
-    let limits = refusal::check_small(r, n, p);
-    let Answer::Done = limits else {
-        return Written::Refused(limits);
-    };
+    refusal::check_small(r, n, p)?;
     let count = (r * r * n) as usize;
-    if y.len() != count {
-        return Written::Refused(Answer::Length { buffer: 1 });
-    }
-    if z.len() != count {
-        return Written::Refused(Answer::Length { buffer: 2 });
-    }
-    if text.len() != 65536 {
-        return Written::Refused(Answer::Length { buffer: 3 });
-    }
-    let k = find_over(y, p as u32);
-    if k < count {
-        return Written::Refused(Answer::Word {
-            buffer: 1,
-            index: k as u32,
-        });
-    }
-    let l = find_over(z, p as u32);
-    if l < count {
-        return Written::Refused(Answer::Word {
-            buffer: 2,
-            index: l as u32,
-        });
-    }
-    let length = put_basis(text, r, n, p, y, z);
-    Written::Done { length }
+    refusal::check_lengths(1, [count, count, 65536], [y.len(), z.len(), text.len()])?;
+    let q = p as u32;
+    refusal::check_buffer(q, 1, y, count)?;
+    refusal::check_buffer(q, 2, z, count)?;
+    Ok(put_basis(text, r, n, p, y, z))
 }

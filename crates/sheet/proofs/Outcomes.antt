@@ -1,33 +1,25 @@
 -- The outcome of a reader of sheets: what a header that nothing refuses says of its numbers, what is left behind its
 -- lines, and the parts put together.
 -- Assumes nothing.
-use mathlib.Core.Path.{◌≡◌, refl, sym, subst}
-use mathlib.Core.List.{List, ◌∷◌, ◌++◌}
-use Prim.Native.Nat.{ℕ, ◌-◌}
-use native.Mathlib.Omega.{arith}
-use lib.IntN.{ℤ}
-use lib.ListN.{length}
+use Rattle.std.proofs.Common.{◌≡◌, refl, sym, subst, List, ◌∷◌, ◌++◌, ℕ, ◌-◌, arith, ℤ, length, Result, Ok, Err}
 use Rattle.job.specs.declared.Kind.{Kind}
 use Rattle.job.specs.declared.Kind.TheVariants.{System, Basis, Equation}
-use Rattle.job.specs.declared.Answer.{Answer}
-use Rattle.job.specs.Refusal.{done, refused, Says, verdict_of}
+use Rattle.job.specs.declared.Refusal.{Refusal}
+use Rattle.job.specs.Refusal.{done, Says, refusal_verdict, verdict_of}
 use Rattle.job.specs.Job.{carried, bytes}
 use Rattle.job.specs.Rules.{limit_rules, size_rules}
-use Rattle.job.proofs.Says.{refused_not_done, says_tail, says_split, says-append_done, says-append_other}
+use Rattle.job.proofs.Says.{refused_not_done, refusal_other, says_tail, says_split, says-append_done, says-append_other}
 use Rattle.job.proofs.Accepted.{Limits, limits_of, small_of}
 use Rattle.text.specs.Lines.{Form}
 use Rattle.cursor.specs.declared.Cursor.{Cursor}
 use Rattle.lines.specs.Steps.{form_of}
 use Rattle.header.specs.declared.Header.{Header}
 use Rattle.body.specs.declared.Lengths.{Lengths}
-use Rattle.sheet.specs.declared.Reading.{Reading}
-use Rattle.sheet.specs.declared.Reading.TheVariants.{Done, Refused, Broken}
-use Rattle.sheet.specs.declared.Start.TheVariants as start
 use Rattle.header.specs.Header.{word_of, header_form}
 use Rattle.sheet.specs.Sheet.{Sheet}
 use Rattle.body.specs.JobLines.{job_lines}
 use Rattle.sheet.specs.JobSheet.{job_forms}
-use Rattle.sheet.specs.Rules.{read_verdict, room_rules, open_rules, line_rules, sheet_rules}
+use Rattle.sheet.specs.Rules.{room_rules, open_rules, line_rules, sheet_rules}
 use Rattle.sheet.specs.Rooms.{FilledAll}
 use Rattle.sheet.specs.Read.{ReadOutcome}
 use Rattle.body.specs.Parts.{Small, Measured}
@@ -102,18 +94,16 @@ module _ {forms : Header → List Form} {lead : Kind → List ℕ} {s : List ℕ
 module _ {forms : Header → List Form} {lengths : Header → List ℕ} {s : List ℕ} where
   -- behind the lines
   module _ {h : Header} {rooms : List (List ℕ)} where
-    pub finished_broken : {line : ℕ} → Says (line_rules forms s h 2 (length (forms h) - 1)) (refused 9 line 0)
-        → Finished forms lengths s h rooms (Broken line) rooms
-    unfolding read_verdict
-    finished_broken {line} v = record {
+    pub finished_broken : {x : Refusal} → Says (line_rules forms s h 2 (length (forms h) - 1)) (refusal_verdict x)
+        → Finished forms lengths s h rooms (Err x) rooms
+    finished_broken {x} v = record {
       verdict = v;
       kept = λ a b d e. refl;
-      taken = λ e. absurd (refused_not_done 9 line 0 e);
+      taken = λ e. absurd (refusal_other x e);
     }
 
     pub finished_done : {z : ℕ → ℤ} {after : List (List ℕ)} → Sheet forms s h z
-        → FilledAll h.p z 0 (lengths h) rooms after → Finished forms lengths s h rooms (Done h) after
-    unfolding read_verdict
+        → FilledAll h.p z 0 (lengths h) rooms after → Finished forms lengths s h rooms (Ok h) after
     finished_done {z} a f = record {
       verdict = sheet_says forms s h a 2 (length (forms h) - 1);
       kept = λ number first second e. absurd (refused_not_done number first second (sym e));
@@ -122,44 +112,46 @@ module _ {forms : Header → List Form} {lengths : Header → List ℕ} {s : Lis
 
   -- the outcome, by what stops the reader
   module _ {rooms : List (List ℕ)} where
-    pub outcome_rooms : {a : Answer} → ¬ (verdict_of a ≡ done) → Says (room_rules rooms) (verdict_of a)
-        → ReadOutcome forms lengths s rooms (Refused a) rooms
-    unfolding sheet_rules read_verdict
-    outcome_rooms {a} n r = record {
+    pub outcome_rooms : {x : Refusal} → Says (room_rules rooms) (refusal_verdict x)
+        → ReadOutcome forms lengths s rooms (Err x) rooms
+    unfolding sheet_rules
+    outcome_rooms {x} r = record {
       verdict = λ h l.
+          let v = refusal_verdict x in
+          let other = refusal_other x in
           let lines = line_rules forms s h 2 (length (forms h) - 1) in
-          let first = says-append_other (room_rules rooms) (open_rules forms s h) (verdict_of a) n r in
-          says-append_other (room_rules rooms ++ open_rules forms s h) lines (verdict_of a) n first;
-      kept = λ x y z e. refl;
-      taken = λ e. absurd (n e);
+          let first = says-append_other (room_rules rooms) (open_rules forms s h) v other r in
+          says-append_other (room_rules rooms ++ open_rules forms s h) lines v other first;
+      kept = λ a b c e. refl;
+      taken = λ e. absurd (refusal_other x e);
     }
 
     module _ (lead : Kind → List ℕ) (r : Says (room_rules rooms) done) where
-      pub outcome_stop : {x : Reading} → Started forms lead s (start.Stop x) → ReadOutcome forms lengths s rooms x rooms
+      pub outcome_stop : {x : Refusal} → Started forms lead s (Err x) → ReadOutcome forms lengths s rooms (Err x) rooms
       unfolding sheet_rules
       outcome_stop {x} q = record {
         verdict = λ h l.
-            let v = read_verdict x in
+            let v = refusal_verdict x in
             let lines = line_rules forms s h 2 (length (forms h) - 1) in
-            let first = says-append_done (room_rules rooms) (open_rules forms s h) v r (q.1 h l) in
-            says-append_other (room_rules rooms ++ open_rules forms s h) lines v q.0 first;
+            let first = says-append_done (room_rules rooms) (open_rules forms s h) v r (q h l) in
+            says-append_other (room_rules rooms ++ open_rules forms s h) lines v (refusal_other x) first;
         kept = λ a b c e. refl;
-        taken = λ e. absurd (q.0 e);
+        taken = λ e. absurd (refusal_other x e);
       }
 
-      pub outcome_taken : {h : Header} {c : Cursor} {x : Reading} {after : List (List ℕ)} → Led forms lead
+      pub outcome_taken : {h : Header} {c : Cursor} {x : Result Header Refusal} {after : List (List ℕ)} → Led forms lead
           → Entered forms lead s h c → Finished forms lengths s h rooms x after
           → ReadOutcome forms lengths s rooms x after
       unfolding sheet_rules
       outcome_taken {h} {c} {x} {after} led q f = record {
-        verdict = λ g l. subst (λ (k : Header). Says (sheet_rules forms s rooms k) (read_verdict x))
+        verdict = λ g l. subst (λ (k : Header). Says (sheet_rules forms s rooms k) (verdict_of x))
             (l.same h (opens_keeps led s q.opens)) said;
         kept = f.kept;
         taken = f.taken;
       }
         where
-          said : Says (sheet_rules forms s rooms h) (read_verdict x)
+          said : Says (sheet_rules forms s rooms h) (verdict_of x)
           said =
               let lines = line_rules forms s h 2 (length (forms h) - 1) in
               let first = says-append_done (room_rules rooms) (open_rules forms s h) done r q.says in
-              says-append_done (room_rules rooms ++ open_rules forms s h) lines (read_verdict x) first f.verdict
+              says-append_done (room_rules rooms ++ open_rules forms s h) lines (verdict_of x) first f.verdict

@@ -1,13 +1,27 @@
 -- Rooms: filled word by word; and the three rooms of a job, where a room with no length is as it was.
 -- Assumes nothing.
-use mathlib.Core.Path.{◌≡◌, refl, sym, ◌∙◌}
-use mathlib.Core.List.{List, [], ◌∷◌}
-use Prim.Native.Nat.{ℕ, ◌+◌, ◌<◌}
+use Rattle.std.proofs.Common.{
+  ◌≡◌,
+  refl,
+  sym,
+  ◌∙◌,
+  List,
+  [],
+  ◌∷◌,
+  ℕ,
+  ◌+◌,
+  ◌<◌,
+  arith,
+  ℤ,
+  length,
+  get_or,
+  set,
+  length-set,
+  get_or-set_same,
+  get_or-set_other,
+  ext_get_or,
+}
 use native.Mathlib.Decide.{ℕ_discrete}
-use native.Mathlib.Omega.{arith}
-use lib.IntN.{ℤ}
-use lib.ListN.{length, get_or, set, length-set}
-use lib.Seq.{get_or-set_same, get_or-set_other, ext_get_or}
 use Rattle.job.specs.declared.Kind.{Kind}
 use Rattle.job.specs.declared.Kind.TheVariants.{System, Basis, Equation}
 use Rattle.job.specs.Job.{lengths_of, read_count}

@@ -1,45 +1,51 @@
 -- A text is the sheet of one header and one row of numbers, and a reader has one outcome: the answer and every cell of
 -- the rooms afterwards follow from the text and the rooms.
 -- Assumes nothing.
-use mathlib.Core.Path.{◌≡◌, refl, sym, ap, subst, ◌∙◌}
-use mathlib.Core.List.{List, [], ◌∷◌, ◌++◌}
-use mathlib.Core.Logic.{inl, inr}
-use Prim.Native.Nat.{ℕ, ◌+◌, ◌-◌, ◌≤◌}
-use native.Mathlib.Decide.{ℕ_discrete}
-use native.Mathlib.Omega.{arith}
-use lib.IntN.{ℤ}
-use lib.ListN.{length, take, drop, take-append-drop}
-use lib.Seq.{ext_get_or}
-use Rattle.job.specs.declared.Kind.TheVariants.{System}
-use Rattle.job.specs.declared.Answer.{Answer}
-use Rattle.job.specs.declared.Answer.TheVariants.{
-  Done as AnswerDone,
-  Order,
-  Terms,
-  Modulus,
-  TermsOverModulus,
-  Length,
-  Word,
-  Singular,
-  LeadingZero,
-  Large,
+use Rattle.std.proofs.Common.{
+  ◌≡◌,
+  refl,
+  sym,
+  ap,
+  subst,
+  ◌∙◌,
+  List,
+  [],
+  ◌∷◌,
+  ◌++◌,
+  inl,
+  inr,
+  ℕ,
+  ◌+◌,
+  ◌-◌,
+  ◌≤◌,
+  arith,
+  ℤ,
+  length,
+  take,
+  drop,
+  take-append-drop,
+  ext_get_or,
+  Result,
+  Ok,
+  Err,
 }
+use native.Mathlib.Decide.{ℕ_discrete}
+use Rattle.job.specs.declared.Kind.TheVariants.{System}
+use Rattle.job.specs.declared.Refusal.{Refusal}
 use Rattle.job.specs.Job.{carried, bytes}
 use Rattle.job.specs.Refusal.{Verdict, done, refused, Says, verdict_of}
 use Rattle.job.specs.Rules.{limit_rules, size_rules}
 use Rattle.job.proofs.Says.{says_unique, says_past, says-append_done, refused_not_done}
-use Rattle.job.proofs.Unique.{answer_same}
+use Rattle.job.proofs.Unique.{refusal_same}
 use Rattle.text.specs.Class.{residue}
 use Rattle.text.specs.Lines.{Form, total}
 use Rattle.text.proofs.Digits.{below_or}
 use Rattle.text.proofs.Lines.{Agree, agree_before, agree_behind, begins_split, begins_same, begins_as}
 use Rattle.header.specs.declared.Header.{Header}
-use Rattle.sheet.specs.declared.Reading.{Reading}
-use Rattle.sheet.specs.declared.Reading.TheVariants.{Done, Refused, Broken}
 use Rattle.header.specs.Header.{header}
 use Rattle.sheet.specs.Sheet.{Sheet, Keeps, FirstLine}
 use Rattle.sheet.specs.JobSheet.{job_forms, job_lengths}
-use Rattle.sheet.specs.Rules.{read_verdict, room_rules, open_rules, line_rules, sheet_rules}
+use Rattle.sheet.specs.Rules.{room_rules, open_rules, line_rules, sheet_rules}
 use Rattle.sheet.specs.Rooms.{Filled, FilledAll}
 use Rattle.sheet.specs.Read.{Taken, ReadOutcome, JobOutcome}
 use Rattle.sheet.proofs.Headers.{one-header}
@@ -60,30 +66,11 @@ verdict_stable (refused a b c) (refused d e f) q = elim (ℕ_discrete a d) [
   ]
 ]
 
--- no answer to a call has number 9
-not_broken : (a : Answer) (line : ℕ) → verdict_of a ≡ refused 9 line 0 → ⊥
-unfolding verdict_of
-not_broken AnswerDone line e = refused_not_done 9 line 0 (sym e)
-not_broken Order line e = let q : ◌≡◌ {A = ℕ} 1 9 = cc in omega arith
-not_broken Terms line e = let q : ◌≡◌ {A = ℕ} 2 9 = cc in omega arith
-not_broken Modulus line e = let q : ◌≡◌ {A = ℕ} 3 9 = cc in omega arith
-not_broken TermsOverModulus line e = let q : ◌≡◌ {A = ℕ} 4 9 = cc in omega arith
-not_broken (Length b) line e = let q : ◌≡◌ {A = ℕ} 5 9 = cc in omega arith
-not_broken (Word b i) line e = let q : ◌≡◌ {A = ℕ} 6 9 = cc in omega arith
-not_broken Singular line e = let q : ◌≡◌ {A = ℕ} 7 9 = cc in omega arith
-not_broken LeadingZero line e = let q : ◌≡◌ {A = ℕ} 8 9 = cc in omega arith
-not_broken Large line e = let q : ◌≡◌ {A = ℕ} 10 9 = cc in omega arith
-
 -- two refusals with one number and the same places are the same answer
-refusal_same : (x y : Reading) → ¬ (read_verdict x ≡ done) → read_verdict x ≡ read_verdict y → x ≡ y
-unfolding read_verdict
-refusal_same (Done h) y n e = absurd (n refl)
-refusal_same (Refused a) (Done h) n e = absurd (n e)
-refusal_same (Refused a) (Refused b) n e = ap Refused (answer_same a b e)
-refusal_same (Refused a) (Broken l) n e = absurd (not_broken a l e)
-refusal_same (Broken k) (Done h) n e = absurd (n e)
-refusal_same (Broken k) (Refused b) n e = absurd (not_broken b k (sym e))
-refusal_same (Broken k) (Broken l) n e = let q : k ≡ l = cc in ap Broken q
+err_same : (x y : Result Header Refusal) → ¬ (verdict_of x ≡ done) → verdict_of x ≡ verdict_of y → x ≡ y
+err_same (Ok h) y n e = absurd (n refl)
+err_same (Err x) (Ok h) n e = absurd (n e)
+err_same (Err x) (Err y) n e = ap Err (refusal_same x y e)
 
 -- rooms filled by numbers that agree
 filled-same : {p i count : ℕ} {y z : ℕ → ℤ} {before s t : List ℕ} → Agree y z i count → Filled p y i count before s
@@ -127,7 +114,7 @@ module _ (forms : Header → List Form)
 
   module _ (lengths : Header → List ℕ) (exact : (h : Header) → total (forms h) ≡ sum_of (lengths h)) (s : List ℕ)
       (rooms : List (List ℕ)) where
-    taken_unique : {x y : Reading} {a b : List (List ℕ)} → Taken forms lengths s rooms x a
+    taken_unique : {x y : Result Header Refusal} {a b : List (List ℕ)} → Taken forms lengths s rooms x a
         → Taken forms lengths s rooms y b → (x ≡ y) × (a ≡ b)
     taken_unique {x} {y} {a} {b} f g =
         let u = sheet_unique f.sheet g.sheet in
@@ -135,29 +122,29 @@ module _ (forms : Header → List Form)
         let agree = rw (exact f.header) at u.1 in
         let filled =
         subst (λ (h : Header). FilledAll h.p g.numbers 0 (lengths h) rooms b) (sym same) g.filled in (
-          f.brought ∙ ap Done same ∙ sym g.brought,
+          f.brought ∙ ap Ok same ∙ sym g.brought,
           all_same f.header.p 0 (lengths f.header) f.numbers g.numbers rooms a b agree f.filled filled,
         )
 
     -- two outcomes for one text and the same rooms are the same
-    pub outcome_unique : {x y : Reading} {a b : List (List ℕ)} → ReadOutcome forms lengths s rooms x a
+    pub outcome_unique : {x y : Result Header Refusal} {a b : List (List ℕ)} → ReadOutcome forms lengths s rooms x a
         → ReadOutcome forms lengths s rooms y b → (x ≡ y) × (a ≡ b)
-    outcome_unique {x} {y} {a} {b} f g = cases (read_verdict x) refl
+    outcome_unique {x} {y} {a} {b} f g = cases (verdict_of x) refl
       where
-        one : (h : Header) → FirstLine forms s h → read_verdict x ≡ read_verdict y
+        one : (h : Header) → FirstLine forms s h → verdict_of x ≡ verdict_of y
         one h l = says_unique (sheet_rules forms s rooms h) (f.verdict h l) (g.verdict h l)
 
         -- whether the text has a header or not
-        same : read_verdict x ≡ read_verdict y
-        same = verdict_stable (read_verdict x) (read_verdict y) (λ q.
+        same : verdict_of x ≡ verdict_of y
+        same = verdict_stable (verdict_of x) (verdict_of y) (λ q.
             let none : (h : Header) → ¬ Keeps forms s h 1 =
             λ h k. q (one h (record { same = λ g l. decides s g h l k })) in
             q (one (header System 0 0 0) (record { same = λ g k. absurd (none g k) })))
 
-        cases : (v : Verdict) → read_verdict x ≡ v → (x ≡ y) × (a ≡ b)
+        cases : (v : Verdict) → verdict_of x ≡ v → (x ≡ y) × (a ≡ b)
         cases done e = taken_unique (f.taken e) (g.taken (sym same ∙ e))
         cases (refused m k l) e = (
-          refusal_same x y (λ d. refused_not_done m k l (sym e ∙ d)) same,
+          err_same x y (λ d. refused_not_done m k l (sym e ∙ d)) same,
           f.kept m k l e ∙ sym (g.kept m k l (sym same ∙ e)),
         )
 
@@ -165,8 +152,8 @@ module _ (forms : Header → List Form)
     pub sheet_outcome : {h : Header} {z : ℕ → ℤ} {after : List (List ℕ)} → Sheet forms s h z → length s ≤ 65536
         → Says (room_rules rooms) done
         → Says (limit_rules h.r h.n h.p ++ size_rules bytes h.r h.n) done
-        → FilledAll h.p z 0 (lengths h) rooms after → ReadOutcome forms lengths s rooms (Done h) after
-    unfolding open_rules sheet_rules read_verdict
+        → FilledAll h.p z 0 (lengths h) rooms after → ReadOutcome forms lengths s rooms (Ok h) after
+    unfolding open_rules sheet_rules
     sheet_outcome {h} {z} a short room limits filled =
         let keeps = sheet_keeps a in
         let rest = line_rules forms s h 2 (length (forms h) - 1) in
@@ -182,8 +169,8 @@ module _ (forms : Header → List Form)
         }
 
     -- a text that is taken is refused by no rule
-    pub outcome_silent : {x : Reading} {after : List (List ℕ)} (o : ReadOutcome forms lengths s rooms x after)
-        (d : read_verdict x ≡ done) → Says (sheet_rules forms s rooms (o.taken d).header) done
+    pub outcome_silent : {x : Result Header Refusal} {after : List (List ℕ)} (o : ReadOutcome forms lengths s rooms x after)
+        (d : verdict_of x ≡ done) → Says (sheet_rules forms s rooms (o.taken d).header) done
     outcome_silent o d =
         let t = o.taken d in
         let h = t.header in
@@ -202,7 +189,7 @@ job_total h =
     omega (arith, lines-total h.kind series (signed_numbers h.r) h.r h.n refl refl)
 
 -- two outcomes of the reader of job sheets are the same
-pub job_outcome_unique : {s : List ℕ} {rooms : List (List ℕ)} {x y : Reading} {a b : List (List ℕ)}
+pub job_outcome_unique : {s : List ℕ} {rooms : List (List ℕ)} {x y : Result Header Refusal} {a b : List (List ℕ)}
     → JobOutcome s rooms x a → JobOutcome s rooms y b → (x ≡ y) × (a ≡ b)
 job_outcome_unique {s} {rooms} = outcome_unique job_forms job_header job_lengths job_total s rooms
 

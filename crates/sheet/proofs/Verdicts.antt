@@ -1,27 +1,46 @@
 -- Which rule of the remaining lines decides: a sheet is silent at each; of lines read behind line 1, the first that is
 -- broken; and where all stand and the text goes on, the line behind them.
 -- Assumes nothing.
-use mathlib.Core.Path.{◌≡◌, sym, ap, subst}
-use mathlib.Core.List.{List, [], ◌∷◌}
-use Prim.Native.Nat.{ℕ, zero, suc, ◌+◌, ◌-◌, ◌<◌, ◌≤◌}
-use native.Mathlib.Omega.{arith}
-use lib.IntN.{ℤ}
-use lib.ListN.{length, take, drop, take-append-drop, drop_of_length-le, length-drop}
-use lib.Seq.{take-take, take-length}
-use Rattle.job.specs.Refusal.{done, refused, Says}
+use Rattle.std.proofs.Common.{
+  ◌≡◌,
+  sym,
+  ap,
+  subst,
+  List,
+  [],
+  ◌∷◌,
+  ℕ,
+  zero,
+  suc,
+  ◌+◌,
+  ◌-◌,
+  ◌<◌,
+  ◌≤◌,
+  arith,
+  ℤ,
+  length,
+  take,
+  drop,
+  take-append-drop,
+  drop_of_length-le,
+  length-drop,
+  take-take,
+  Ok,
+  Err,
+}
+use lib.Seq.{take-length}
+use Rattle.job.specs.Refusal.{done, refused, Says, refusal_verdict}
 use Rattle.job.proofs.Says.{says_none, says_here, says_past}
 use Rattle.text.specs.Lines.{Form, total, Begins}
 use Rattle.text.proofs.Lines.{begins_append, begins_split, begins_rest, begins_same, begins_as}
 use Rattle.cursor.specs.declared.Cursor.{Cursor}
-use Rattle.lines.specs.declared.Step.{Step}
-use Rattle.lines.specs.declared.Step.TheVariants as step
-use Rattle.lines.specs.Steps.{nth, Passed, Breaks, Read}
+use Rattle.job.specs.declared.Refusal.TheVariants.{Form as FormRefusal}
+use Rattle.lines.specs.Steps.{nth, Passed, Breaks}
 use Rattle.header.specs.declared.Header.{Header}
 use Rattle.header.specs.Header.{header_form}
 use Rattle.sheet.specs.Sheet.{Sheet, Keeps}
-use Rattle.sheet.specs.declared.Body.TheVariants as body
 use Rattle.sheet.specs.Rules.{line_rules}
-use Rattle.sheet.specs.Parts.{Inside, Closing}
+use Rattle.sheet.specs.Parts.{Closing}
 use Rattle.header.specs.Opened.{Opens}
 
 -- a text that begins with some lines begins with the first of them
@@ -94,7 +113,7 @@ module _ (forms : Header → List Form) {lead s : List ℕ} {h : Header} {c : Cu
       let begins = joined (begins_as (take-take k m fs l) some.1) in
       record { short = o.short; numbers = z; rest = some.0; begins = rw e begins }
 
-  broken-says : {old new : List ℤ} {number : ℕ} → Breaks s c fs 0 old new number
+  pub broken-says : {old new : List ℤ} {number : ℕ} → Breaks s c fs 0 old new number
       → Says (line_rules forms s h 2 (length (forms h) - 1)) (refused 9 number 0)
   broken-says {new = new} {number = number} b =
       let m = b.before in
@@ -128,28 +147,11 @@ module _ (forms : Header → List Form) {lead s : List ℕ} {h : Header} {c : Cu
         let none : drop d.byte s ≡ [] = drop_of_length-le s {i = d.byte} l in
         record { short = o.short; whole = rw e (joined (rw none at p.begins)) }
 
--- what was read is within the text
-pub read_inside : (s : List ℕ) (c : Cursor) (fs : List Form) (old new : List ℤ) (t : Step) → Read s c fs 0 old new t
-    → Inside s t
-read_inside s c fs old new (step.Next d) r = r.placed
-read_inside s c fs old new (step.Broken number) r = tt
+-- where the lines are passed, for every sort
+module _ {s : List ℕ} {d : Cursor} where
+  pub close_extra : d.byte < length s → Closing s d (Err (FormRefusal (d.line + 1)))
+  unfolding refusal_verdict
+  close_extra l = record { bodied = λ forms lead h c fs old new o q p. extra_says forms o q p l }
 
--- what was read, for every sort
-module _ {s : List ℕ} {t : Step} where
-  pub close_extra : {d : Cursor} → t ≡ step.Next d → d.byte < length s → Closing s t (body.Broken (d.line + 1))
-  close_extra e l = record {
-    bodied = λ forms lead h c fs old new o q r.
-        extra_says forms o q (subst (λ (x : Step). Read s c fs 0 old new x) e r) l;
-  }
-
-  pub close_whole : {d : Cursor} → t ≡ step.Next d → length s ≤ d.byte → Closing s t body.Whole
-  close_whole e l = record {
-    bodied = λ forms lead h c fs old new o q r.
-        whole_sheet forms o q (subst (λ (x : Step). Read s c fs 0 old new x) e r) l;
-  }
-
-  pub close_broken : {number : ℕ} → t ≡ step.Broken number → Closing s t (body.Broken number)
-  close_broken e = record {
-    bodied = λ forms lead h c fs old new o q r.
-        broken-says forms o q (subst (λ (x : Step). Read s c fs 0 old new x) e r);
-  }
+  pub close_whole : length s ≤ d.byte → Closing s d (Ok tt)
+  close_whole l = record { bodied = λ forms lead h c fs old new o q p. whole_sheet forms o q p l }

@@ -4,20 +4,12 @@
 -- last line without its line feed; whatever follows the last line is broken at the next number.
 -- Assumes nothing.
 use Rattle.std.specs.Prelude.{List, [], ◌∷◌, ◌++◌, ℕ, zero, suc, ◌-◌, ◌<◌, ℤ, length, replicate}
-use Rattle.job.specs.Refusal.{Verdict, done, refused, Rule, rule, verdict_of}
+use Rattle.job.specs.Refusal.{Rule, rule}
 use Rattle.job.specs.Job.{words, bytes}
 use Rattle.job.specs.Rules.{limit_rules, size_rules, length_rules}
 use Rattle.text.specs.Lines.{Form}
 use Rattle.header.specs.declared.Header.{Header}
-use Rattle.sheet.specs.declared.Reading.{Reading}
-use Rattle.sheet.specs.declared.Reading.TheVariants.{Done, Refused, Broken}
 use Rattle.sheet.specs.Sheet.{Sheet, Keeps}
-
--- document 01's number and places for each answer
-unfoldable pub read_verdict : Reading → Verdict
-read_verdict (Done h) = done
-read_verdict (Refused answer) = verdict_of answer
-read_verdict (Broken line) = refused 9 line 0
 
 -- 9, at a line
 abbrev pub broken : ℕ → Type 0 → Rule

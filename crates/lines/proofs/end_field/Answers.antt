@@ -1,26 +1,18 @@
--- `lines::end_field` meets its contract. The loop's invariant: no byte passed is up to 10. The measure is what is left.
+-- `lines::end_field` meets its contract: the first byte up to 10, or the end of the text.
 -- Assumes nothing.
-use native.Mathlib.Decide.{ℕ_discrete}
-use native.Mathlib.Omega.{arith}
+use Rattle.std.proofs.Common.{◌≡◌, ◌-◌, take, drop, length, position, nat_le, rules, tests}
+use Rattle.std.proofs.lemmas.Iterator.{YieldsList-from_slice}
+use Rattle.std.proofs.lemmas.Iterator.Search.{position_from_yields_List}
+use Rattle.lines.proofs.Bytes.{rest_all}
+use Rattle.lines.proofs.Items.{field_first}
 use Rattle.lines.proofs.end_field.Goals as goal
-
-pub loop-i-init : goal.loop-i-init
-loop-i-init c = (omega arith, omega arith, λ k l h. absurd (omega arith))
-
-pub returns-then-s-i-le10 : goal.returns-then-s-i-le10
-returns-then-s-i-le10 c =
-    let l = c.loop-i in
-    record { order = l.invariant.0; within = l.invariant.1; plain = l.invariant.2; stop = λ h. c.if-s-i-le10.true }
-
-pub loop-i-preserved : goal.loop-i-preserved
-loop-i-preserved c =
-    let l = c.loop-i in (
-      omega arith,
-      omega arith,
-      λ k a b. elim (ℕ_discrete k l.i) [ yes q ↦ rw q c.if-s-i-le10.false | no q ↦ l.invariant.2 k a (omega arith) ],
-    )
 
 pub returns : goal.returns
 returns c =
-    let l = c.loop-i in
-    record { order = l.invariant.0; within = l.invariant.1; plain = l.invariant.2; stop = λ h. absurd (omega arith) }
+    let s = c.args.s.now in
+    let i = c.args.from in
+    let rest = take (length s - i) (drop i s) in
+    let p : c.position.result ≡ position (λ b. nat_le b 10) rest =
+    position_from_yields_List (λ b. nat_le b 10) _ _ c.position.result c.position.ensures.ran
+    (YieldsList-from_slice rest cc) (λ x b q k. search (rules, tests)) in
+    field_first s i c.unwrap_or.result c.requires (rw (p, rest_all s i) at c.unwrap_or.ensures)

@@ -1,14 +1,9 @@
--- `lines::read_matrix` meets its contract. The loop's invariant: the lines of the rows before k are passed. The measure
--- is how many rows are left.
+-- `lines::read_matrix` meets its contract. The loop's invariant: the lines of the rows before k are passed.
 -- Assumes nothing.
-use mathlib.Core.Path.{◌≡◌}
-use mathlib.Core.List.{[], ◌∷◌}
-use Prim.Native.Nat.{◌+◌, ◌*◌, ◌≤◌}
-use native.Mathlib.Omega.{arith}
-use lib.ListN.{length}
+use Rattle.std.proofs.Common.{◌≡◌, [], ◌∷◌, ◌+◌, ◌*◌, ◌≤◌, arith, length}
+use Rattle.std.proofs.lemmas.Result.{err_from_is_err_and}
 use Rattle.lines.specs.Forms.{matrix_forms}
 use Rattle.lines.specs.Steps.{form_of, Read}
-use Rattle.lines.specs.declared.Step.{Step}
 use Rattle.lines.proofs.Forms.{word_digit}
 use Rattle.lines.proofs.Passes.{Passed-none}
 use Rattle.lines.proofs.Blocks.{block_within, matrix_next, matrix-broken}
@@ -24,13 +19,7 @@ pub loop-k-init : goal.loop-k-init
 unfolding matrix_forms
 loop-k-init c =
     let a = c.args in
-    (omega arith, Passed-none a.s.now a.c a.from a.w.now c.requires.0.placed c.requires.1)
-
-pub overflow_cast-h : goal.overflow_cast-h
-overflow_cast-h c = omega arith
-
-pub overflow_add-h : goal.overflow_add-h
-overflow_add-h c = omega arith
+    Passed-none a.s.now a.c a.from a.w.now c.requires.0.placed c.requires.1
 
 -- the places of row k are within the buffer
 places
@@ -42,7 +31,7 @@ places c =
     let a = c.args in
     let l = c.loop-k in
     let within = block_within l.k a.rows (a.columns * a.n.count) c.loop-k-test.true in
-    omega (arith, within, c.requires.0.room, l.invariant.1.long)
+    omega (arith, within, c.requires.0.room, l.invariant.long)
 
 pub overflow_mul-k : goal.overflow_mul-k
 overflow_mul-k c = omega (arith, places (goal.at.overflow_mul-k c).In-loop-k)
@@ -54,7 +43,7 @@ pub read_rows-requires : goal.read_rows-requires
 read_rows-requires c =
     let pre = c.requires in
     let room = places (goal.at.read_rows-requires c).In-loop-k in
-    let p = c.loop-k.invariant.1 in (
+    let p = c.loop-k.invariant in (
       record { placed = p.placed; low = pre.0.low; high = pre.0.high; room = room },
       p.field,
       omega (arith, pre.4),
@@ -62,29 +51,29 @@ read_rows-requires c =
 
 -- the rows up to k, with what the reading of row k found
 found
-    : (c : After-read_rows) (r : Step) → c.read_rows.result ≡ r →
+    : (c : After-read_rows) →
     let a = c.args in
     let l = c.loop-k in
     Read a.s.now a.c (matrix_forms (form_of a.n) (a.word ∷ []) a.columns 1 (l.k + 1)) a.from a.w.now
-    c.read_rows.new.w r
-found c r e =
+    c.read_rows.new.w c.read_rows.result
+found c =
     let a = c.args in
     let l = c.loop-k in
     let head = word_digit a.word l.k (omega (arith, c.loop-k-test.true, c.requires.3)) in
     let new = c.read_rows.new.w in
-    matrix_next a.n (a.word ∷ []) a.columns l.k l.invariant.1 _ head new r (rw e at c.read_rows.ensures)
+    matrix_next a.n (a.word ∷ []) a.columns l.k l.invariant _ head new c.read_rows.result c.read_rows.ensures
 
-pub returns-in-Broken : goal.returns-in-Broken
-returns-in-Broken c =
+pub returns-in_err-d : goal.returns-in_err-d
+returns-in_err-d c =
     let a = c.args in
-    let l = c.loop-k in
-    matrix-broken a.n (a.word ∷ []) a.columns l.k a.rows c.loop-k-test.true
-    (found (goal.at.returns-in-Broken c).After-read_rows _ c.in-Broken.is)
+    let p = err_from_is_err_and c.from_residual.result c.from_residual.ensures.1 in
+    rw (p.1, p.2) (matrix-broken a.n (a.word ∷ []) a.columns c.loop-k.k a.rows c.loop-k-test.true
+    (rw c.in_err-d.was at (found (goal.at.returns-in_err-d c).After-read_rows)))
 
 pub loop-k-preserved : goal.loop-k-preserved
-loop-k-preserved c = (omega arith, found (goal.at.loop-k-preserved c).After-read_rows _ c.in-Next.is)
+loop-k-preserved c = rw c.in_ok-d.was at (found (goal.at.loop-k-preserved c).After-read_rows)
 
 pub returns : goal.returns
 returns c =
     let all : c.args.rows ≡ c.loop-k.k = omega arith in
-    rw all c.loop-k.invariant.1
+    rw all c.loop-k.invariant

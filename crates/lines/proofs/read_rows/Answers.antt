@@ -1,13 +1,9 @@
--- `lines::read_rows` meets its contract. The loop's invariant: the lines of the rows before k are passed. The measure
--- is how many rows are left.
+-- `lines::read_rows` meets its contract. The loop's invariant: the lines of the rows before k are passed.
 -- Assumes nothing.
-use mathlib.Core.Path.{◌≡◌}
-use Prim.Native.Nat.{◌+◌, ◌*◌, ◌≤◌}
-use native.Mathlib.Omega.{arith}
-use lib.ListN.{length}
+use Rattle.std.proofs.Common.{◌≡◌, ◌+◌, ◌*◌, ◌≤◌, arith, length}
+use Rattle.std.proofs.lemmas.Result.{err_from_is_err_and}
 use Rattle.lines.specs.Forms.{row_forms}
 use Rattle.lines.specs.Steps.{form_of, Read}
-use Rattle.lines.specs.declared.Step.{Step}
 use Rattle.lines.proofs.Passes.{Passed-none}
 use Rattle.lines.proofs.Blocks.{block_within, rows_next, rows-broken}
 use Rattle.lines.proofs.read_rows.Goals as goal
@@ -17,10 +13,7 @@ pub loop-k-init : goal.loop-k-init
 unfolding row_forms
 loop-k-init c =
     let a = c.args in
-    (omega arith, Passed-none a.s.now a.c a.from a.w.now c.requires.0.placed c.requires.1)
-
-pub overflow_add-first : goal.overflow_add-first
-overflow_add-first c = omega arith
+    Passed-none a.s.now a.c a.from a.w.now c.requires.0.placed c.requires.1
 
 -- the places of row k are within the buffer
 places
@@ -30,7 +23,7 @@ places
 places c =
     let l = c.loop-k in
     let within = block_within l.k c.args.rows c.args.n.count c.loop-k-test.true in
-    omega (arith, within, c.requires.0.room, l.invariant.1.long)
+    omega (arith, within, c.requires.0.room, l.invariant.long)
 
 pub overflow_mul-k : goal.overflow_mul-k
 overflow_mul-k c = omega (arith, places (goal.at.overflow_mul-k c).In-loop-k)
@@ -41,34 +34,34 @@ overflow_add-from c = omega (arith, places (goal.at.overflow_add-from c).In-loop
 pub read_row-requires : goal.read_row-requires
 read_row-requires c =
     let pre = c.requires in
-    let placed = c.loop-k.invariant.1.placed in
+    let placed = c.loop-k.invariant.placed in
     let room = places (goal.at.read_row-requires c).In-loop-k in
     (record { placed = placed; low = pre.0.low; high = pre.0.high; room = room }, omega arith)
 
 -- the rows up to k, with what the reading of row k found
 found
-    : (c : After-read_row) (r : Step) → c.read_row.result ≡ r →
+    : (c : After-read_row) →
     let a = c.args in
     let l = c.loop-k in
     Read a.s.now a.c (row_forms (form_of a.n) a.h.now a.first (l.k + 1)) a.from a.w.now
-    c.read_row.new.w r
-found c r e =
+    c.read_row.new.w c.read_row.result
+found c =
     let a = c.args in
     let l = c.loop-k in
     let new = c.read_row.new.w in
-    rows_next a.n a.h.now a.first l.k l.invariant.1 new r (rw e at c.read_row.ensures)
+    rows_next a.n a.h.now a.first l.k l.invariant new c.read_row.result c.read_row.ensures
 
-pub returns-in-Broken : goal.returns-in-Broken
-returns-in-Broken c =
+pub returns-in_err-d : goal.returns-in_err-d
+returns-in_err-d c =
     let a = c.args in
-    let l = c.loop-k in
-    rows-broken a.n a.h.now a.first l.k a.rows c.loop-k-test.true
-    (found (goal.at.returns-in-Broken c).After-read_row _ c.in-Broken.is)
+    let p = err_from_is_err_and c.from_residual.result c.from_residual.ensures.1 in
+    rw (p.1, p.2) (rows-broken a.n a.h.now a.first c.loop-k.k a.rows c.loop-k-test.true
+    (rw c.in_err-d.was at (found (goal.at.returns-in_err-d c).After-read_row)))
 
 pub loop-k-preserved : goal.loop-k-preserved
-loop-k-preserved c = (omega arith, found (goal.at.loop-k-preserved c).After-read_row _ c.in-Next.is)
+loop-k-preserved c = rw c.in_ok-d.was at (found (goal.at.loop-k-preserved c).After-read_row)
 
 pub returns : goal.returns
 returns c =
     let all : c.args.rows ≡ c.loop-k.k = omega arith in
-    rw all c.loop-k.invariant.1
+    rw all c.loop-k.invariant

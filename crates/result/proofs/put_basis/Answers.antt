@@ -1,8 +1,6 @@
 -- `result::put_basis` meets its contract: line 1, the lines of Y, and the lines of Z behind them.
 -- Assumes nothing.
-use mathlib.Core.Path.{◌∙◌}
-use Prim.Native.Nat.{◌≤◌}
-use native.Mathlib.Omega.{arith}
+use Rattle.std.proofs.Common.{◌∙◌, ◌≤◌, arith}
 use Rattle.job.specs.declared.Kind.TheVariants.{Basis}
 use Rattle.text.proofs.Puts.{put_more, put_as}
 use Rattle.result.proofs.Room.{header_room, matrix_room}
@@ -10,12 +8,6 @@ use Rattle.result.proofs.Turns.{put_within, ready_earlier}
 use Rattle.result.proofs.Sheets.{basis_sheet}
 use Rattle.result.proofs.put_basis.Goals as goal
 use Rattle.result.proofs.put_basis.Goals.{After-put_header-a}
-
-pub overflow_cast-modulus : goal.overflow_cast-modulus
-overflow_cast-modulus c = omega (arith, c.requires.modulus)
-
-pub put_header-a-requires : goal.put_header-a-requires
-put_header-a-requires c = omega (arith, c.requires.first.room)
 
 -- line 1 takes at most 79 bytes
 header_short : (c : After-put_header-a) → c.put_header-a.result ≤ 79
@@ -28,7 +20,7 @@ header_short c =
 pub put_matrix-b-requires : goal.put_matrix-b-requires
 put_matrix-b-requires c =
     let short = header_short (goal.at.put_matrix-b-requires c).After-put_header-a in
-    (c.requires.order, ready_earlier c.requires.first short c.put_header-a.ensures.long)
+    (c.requires.order, c.requires.exact.0, ready_earlier c.requires.first short c.put_header-a.ensures.long)
 
 pub put_matrix-requires : goal.put_matrix-requires
 put_matrix-requires c =
@@ -40,10 +32,10 @@ put_matrix-requires c =
     let end = put_within put (rows pre.order (omega arith) 0) in
     let line-short = header_short (goal.at.put_matrix-requires c).After-put_header-a in
     let same = put.long ∙ c.put_header-a.ensures.long in
-    (pre.order, ready_earlier pre.second (omega (arith, line-short, end)) same)
+    (pre.order, pre.exact.1, ready_earlier pre.second (omega (arith, line-short, end)) same)
 
 pub returns : goal.returns
 returns c =
     let a = c.args in
-    put_as (basis_sheet a.r a.n a.p a.y.now a.z.now c.requires.exact)
+    put_as (basis_sheet a.r a.n a.p a.y.now a.z.now c.requires.exact.0)
     (put_more c.put_header-a.ensures (put_more c.put_matrix-b.ensures c.put_matrix.ensures))

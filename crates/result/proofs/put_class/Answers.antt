@@ -1,10 +1,6 @@
 -- `result::put_class` meets its contract: one text after another, and the number is the balanced one.
 -- Assumes nothing.
-use mathlib.Core.Path.{ap, ◌∙◌}
-use mathlib.Core.List.{◌∷◌}
-use lib.IntN.{ℤ}
-use mir.Syntax.{w64}
-use mir.Facts.{to_z-of_z}
+use Rattle.std.proofs.Common.{ap, ◌∙◌, ◌∷◌, ℤ, w64, to_z-of_z}
 use Rattle.text.specs.Decimal.{spell}
 use Rattle.text.proofs.Puts.{put_more, put_as}
 use Rattle.result.proofs.put_class.Goals as goal

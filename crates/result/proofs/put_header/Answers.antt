@@ -1,7 +1,6 @@
 -- `result::put_header` meets its contract: the words, which leave room for the numbers, and the numbers.
 -- Assumes nothing.
-use mathlib.Core.List.{append_assoc}
-use native.Mathlib.Omega.{arith}
+use Rattle.std.proofs.Common.{append_assoc, arith}
 use Rattle.text.proofs.Puts.{put_more, put_as}
 use Rattle.result.proofs.Room.{lead_room}
 use Rattle.result.proofs.put_header.Goals as goal

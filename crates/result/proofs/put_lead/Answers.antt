@@ -1,6 +1,6 @@
 -- `result::put_lead` meets its contract: the bytes of each kind.
 -- Assumes nothing.
-use mathlib.Core.Path.{sym, ap}
+use Rattle.std.proofs.Common.{sym, ap}
 use Rattle.text.proofs.Puts.{put_as}
 use Rattle.header.specs.Header.{word_of}
 use Rattle.result.specs.ResultSheet.{result_words}

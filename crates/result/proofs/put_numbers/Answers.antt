@@ -1,43 +1,24 @@
 -- `result::put_numbers` meets its contract. The loop's invariant is `NumbersPut`.
--- The measure is what is left of the words.
 -- Assumes nothing.
-use Prim.Native.Nat.{◌+◌}
-use native.Mathlib.Omega.{arith}
+use Rattle.std.proofs.Common.{arith}
 use Rattle.result.proofs.Turns.{numbers-none, numbers_room, numbers_next, numbers_all}
 use Rattle.result.proofs.put_numbers.Goals as goal
 
-pub loop-k-init : goal.loop-k-init
-loop-k-init c = numbers-none c.requires
-
-pub overflow_add-from : goal.overflow_add-from
-overflow_add-from c = omega arith
-
-pub offset_bounds-s-from : goal.offset_bounds-s-from
-offset_bounds-s-from c = omega arith
-
-pub bounds-s-from : goal.bounds-s-from
-bounds-s-from c = omega arith
+pub loop-c-init : goal.loop-c-init
+loop-c-init c = numbers-none c.requires
 
 pub put_class-e-requires : goal.put_class-e-requires
 put_class-e-requires c =
-    let room = numbers_room c.requires c.loop-k.invariant (omega arith) in
-    (omega arith, c.requires.below (c.args.from + c.loop-k.k))
+    let room = numbers_room c.requires c.loop-c.invariant (omega arith) in
+    (omega arith, c.requires.below c.loop-c.c-index)
 
-pub overflow_add-k : goal.overflow_add-k
-overflow_add-k c = omega arith
-
-pub loop-k-smaller : goal.loop-k-smaller
-loop-k-smaller c = omega arith
-
-pub loop-k-preserved : goal.loop-k-preserved
-loop-k-preserved c =
-    numbers_next c.requires c.loop-k.invariant (omega arith) c.put_class-e.ensures
+pub loop-c-preserved : goal.loop-c-preserved
+loop-c-preserved c = numbers_next c.requires c.loop-c.invariant (omega arith) c.put_class-e.ensures
 
 pub put_byte-requires : goal.put_byte-requires
 put_byte-requires c =
-    let room = numbers_room c.requires c.loop-k.invariant (omega arith) in
+    let room = numbers_room c.requires c.loop-c.invariant (omega arith) in
     omega arith
 
 pub returns : goal.returns
-returns c =
-    numbers_all c.requires c.loop-k.invariant (omega arith) c.put_byte.ensures
+returns c = numbers_all c.requires c.loop-c.invariant (omega arith) c.put_byte.ensures

@@ -1,6 +1,6 @@
 -- `result::put_row` meets its contract: the head, the row number and the numbers, one text after another.
 -- Assumes nothing.
-use native.Mathlib.Omega.{arith}
+use Rattle.std.proofs.Common.{arith}
 use Rattle.text.proofs.Puts.{put_more}
 use Rattle.result.proofs.Turns.{row_ready}
 use Rattle.result.proofs.put_row.Goals as goal

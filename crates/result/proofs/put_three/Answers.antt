@@ -1,9 +1,7 @@
 -- `result::put_three` meets its contract: three numbers and the line feed, one text after another. Each leaves room for
 -- the next.
 -- Assumes nothing.
-use Prim.Native.Nat.{◌+◌, ◌≤◌}
-use native.Mathlib.Omega.{arith}
-use lib.ListN.{length}
+use Rattle.std.proofs.Common.{◌+◌, ◌≤◌, arith, length}
 use Rattle.text.proofs.Puts.{put_more}
 use Rattle.result.proofs.Room.{field_room}
 use Rattle.result.proofs.put_three.Goals as goal

@@ -1,14 +1,11 @@
 -- `result::put_vector` meets its contract: line 1, and the rows behind it.
 -- Assumes nothing.
-use native.Mathlib.Omega.{arith}
+use Rattle.std.proofs.Common.{arith}
 use Rattle.text.proofs.Puts.{put_more, put_as}
 use Rattle.result.proofs.Room.{header_room}
 use Rattle.result.proofs.Turns.{ready_earlier}
 use Rattle.result.proofs.Sheets.{vector_sheet}
 use Rattle.result.proofs.put_vector.Goals as goal
-
-pub put_header-a-requires : goal.put_header-a-requires
-put_header-a-requires c = omega (arith, c.requires.ready.room)
 
 pub put_rows-requires : goal.put_rows-requires
 put_rows-requires c =
@@ -16,7 +13,7 @@ put_rows-requires c =
     let short =
     header_room a.kind a.r a.n a.p c.ranges.r.fits c.ranges.n.fits c.ranges.p.fits in
     let put = c.put_header-a.ensures in
-    ready_earlier c.requires.ready (omega (arith, short, put.end)) put.long
+    (c.requires.exact, ready_earlier c.requires.ready (omega (arith, short, put.end)) put.long)
 
 pub returns : goal.returns
 returns c =

@@ -1,101 +1,119 @@
--- `result::write_basis` meets its contract: each test takes rules away or refuses by the first that is left, and where
--- none is left the sheet is put.
+-- `result::write_basis` meets its contract: each check speaks where those before it are silent, and where all are the
+-- sheet is put.
 -- Assumes nothing.
-use mathlib.Core.List.{[], ◌∷◌, ◌++◌}
-use Prim.Native.Nat.{◌*◌, ◌≤◌}
-use native.Mathlib.Omega.{arith}
+use Rattle.std.proofs.Common.{[], ◌∷◌, ◌*◌, ◌≤◌, Ok, arith}
+use Rattle.std.proofs.lemmas.Result.{err_from_is_err_and}
 use Rattle.job.specs.declared.Kind.TheVariants.{Basis}
-use Rattle.job.specs.Refusal.{done, Says}
-use Rattle.job.specs.Job.{bytes}
-use Rattle.job.specs.Rules.{limit_rules, size_rules}
-use Rattle.refusal.proofs.Judged.{judged_done}
+use Rattle.refusal.specs.Checked.{Judged}
+use Rattle.refusal.proofs.Products.{bounded_of}
+use Rattle.header.specs.Header.{header}
 use Rattle.result.proofs.Checks.{
-  limits_refuse,
-  basis_wrong,
-  basis_inverse,
-  basis_text,
-  basis_over,
-  basis_inverse_over,
-  basis_done,
+  exact,
+  small_refuses,
+  exact_refuses,
+  below_refuses,
+  sheet_written,
+  basis_exact,
+  first_below,
+  second_below,
+  basis_first,
+  basis_second,
+  basis_whole,
 }
 use Rattle.result.proofs.Sizes.{limits, small, square, basis_ready}
 use Rattle.result.proofs.write_basis.Goals as goal
-use Rattle.result.proofs.write_basis.Goals.{In-Done, Start}
+use Rattle.result.proofs.write_basis.Goals.{In_ok-check_small, In_ok-check_lengths}
 
-pub returns-in_default : goal.returns-in_default
-returns-in_default c =
-    let a = c.args in
-    limits_refuse a.r a.n a.p Basis (a.y.now ∷ a.z.now ∷ []) a.text.now
-    c.check_small-limits.ensures c.in_default.not-Done
+pub returns-in_err-check_small : goal.returns-in_err-check_small
+returns-in_err-check_small c =
+    let p = err_from_is_err_and c.from_residual.result c.from_residual.ensures.1 in
+    rw (p.1, p.2) (small_refuses _ _ _ c.in_err-check_small.ensures)
 
--- behind 1 to 4 and 10
-passed
-    : (c : In-Done)
-    → let a = c.args in
-    Says (limit_rules a.r a.n a.p ++ size_rules bytes a.r a.n) done
-passed c = judged_done c.check_small-limits.ensures c.in-Done.is
-
-few : (c : In-Done) → let a = c.args in a.r * a.r * a.n ≤ 1024
-few c = let a = c.args in small a.r a.n a.p (passed c)
+few : (c : In_ok-check_small) → c.args.r * c.args.r * c.args.n ≤ 1024
+few c = small c.args.r c.args.n c.args.p c.in_ok-check_small.ensures.says
 
 pub overflow_mul-count : goal.overflow_mul-count
 overflow_mul-count c =
     let a = c.args in
-    omega (arith, square a.r a.n a.p (passed c))
+    omega (arith, square a.r a.n a.p c.in_ok-check_small.ensures.says)
 
 pub overflow_mul-count-2 : goal.overflow_mul-count-2
 overflow_mul-count-2 c = omega (arith, few c)
 
-pub returns-then-y-count : goal.returns-then-y-count
-returns-then-y-count c =
-    basis_wrong (passed (goal.at.returns-then-y-count c).In-Done) (λ e. c.if-y-count.true (omega arith))
+pub check_lengths-requires : goal.check_lengths-requires
+check_lengths-requires c =
+    let bound = few (goal.at.check_lengths-requires c).In_ok-check_small in
+    (omega arith, (omega arith, omega arith, bounded_of _ (omega arith)))
 
-pub returns-then-z-count : goal.returns-then-z-count
-returns-then-z-count c =
-    basis_inverse (passed (goal.at.returns-then-z-count c).In-Done) (omega arith) (λ e. c.if-z-count.true (omega arith))
-
-pub returns-then-text-ne65536 : goal.returns-then-text-ne65536
-returns-then-text-ne65536 c =
-    basis_text (passed (goal.at.returns-then-text-ne65536 c).In-Done) (omega arith) (omega arith)
-    (λ e. c.if-text-ne65536.true (omega arith))
-
--- a modulus within the limits has room in a word
-modulus_fits : (c : In-Done) → let a = c.args in a.p ≤ 2147483647
-modulus_fits c = let a = c.args in omega (arith, (limits a.r a.n a.p (passed c)).half)
-
-pub overflow_cast-p : goal.overflow_cast-p
-overflow_cast-p c = omega (arith, modulus_fits (goal.at.overflow_cast-p c).In-Done)
-
-pub overflow_cast-result : goal.overflow_cast-result
-overflow_cast-result c = omega (arith, few (goal.at.overflow_cast-result c).In-Done)
-
-pub returns-then-k-count : goal.returns-then-k-count
-returns-then-k-count c =
-    basis_over (passed (goal.at.returns-then-k-count c).In-Done) (omega arith) (omega arith) (omega arith)
-    c.find_over-k.ensures (omega arith)
-
-pub overflow_cast-p-2 : goal.overflow_cast-p-2
-overflow_cast-p-2 c = omega (arith, modulus_fits (goal.at.overflow_cast-p-2 c).In-Done)
-
-pub overflow_cast-result-then-l-count : goal.overflow_cast-result-then-l-count
-overflow_cast-result-then-l-count c =
-    omega (arith, few (goal.at.overflow_cast-result-then-l-count c).In-Done)
-
-pub returns-then-l-count : goal.returns-then-l-count
-returns-then-l-count c =
-    basis_inverse_over (passed (goal.at.returns-then-l-count c).In-Done) (omega arith) (omega arith) (omega arith)
-    c.find_over-k.ensures (omega arith)
-    c.find_over-l.ensures (omega arith)
-
-pub put_basis-length-requires : goal.put_basis-length-requires
-put_basis-length-requires c =
+pub returns-in_err-check_lengths : goal.returns-in_err-check_lengths
+returns-in_err-check_lengths c =
     let a = c.args in
-    basis_ready a.r a.n a.p (passed (goal.at.put_basis-length-requires c).In-Done) (omega arith) (omega arith)
-    (omega arith)
-    c.find_over-k.ensures (omega arith) c.find_over-l.ensures (omega arith)
+    let back = c.from_residual-in_err-check_lengths in
+    let p = err_from_is_err_and back.result back.ensures.1 in
+    let said = basis_exact a.r a.n a.p a.y.now a.z.now a.text.now c.in_err-check_lengths.ensures in
+    rw (p.1, p.2) (exact_refuses _ _ _ c.in_ok-check_small.ensures said)
+
+pub overflow_cast-q : goal.overflow_cast-q
+overflow_cast-q c =
+    let a = c.args in
+    omega (arith, (limits a.r a.n a.p c.in_ok-check_small.ensures.says).half)
+
+-- 5 is silent
+long
+    : (c : In_ok-check_lengths)
+    → let a = c.args in
+    Judged (exact (header Basis a.r a.n a.p) (a.y.now ∷ a.z.now ∷ []) a.text.now) (Ok tt)
+long c = let a = c.args in basis_exact a.r a.n a.p a.y.now a.z.now a.text.now c.in_ok-check_lengths.ensures
+
+pub check_buffer-requires : goal.check_buffer-requires
+check_buffer-requires c =
+    let a = c.args in
+    let at = goal.at.check_buffer-requires c in
+    let bound = few at.In_ok-check_small in
+    let same = basis_first a.r a.n a.p a.y.now a.z.now a.text.now (long at.In_ok-check_lengths) in
+    record { few = omega arith; within = omega arith }
+
+pub returns-in_err-check_buffer : goal.returns-in_err-check_buffer
+returns-in_err-check_buffer c =
+    let a = c.args in
+    let back = c.from_residual-in_err-check_buffer in
+    let p = err_from_is_err_and back.result back.ensures.1 in
+    let known = long (goal.at.returns-in_err-check_buffer c).In_ok-check_lengths in
+    let said = first_below a.r a.n a.p a.y.now a.z.now a.text.now c.in_err-check_buffer.ensures in
+    rw (p.1, p.2) (below_refuses _ _ _ c.in_ok-check_small.ensures known said)
+
+pub check_buffer-requires-2 : goal.check_buffer-requires-2
+check_buffer-requires-2 c =
+    let a = c.args in
+    let at = goal.at.check_buffer-requires-2 c in
+    let bound = few at.In_ok-check_small in
+    let same = basis_second a.r a.n a.p a.y.now a.z.now a.text.now (long at.In_ok-check_lengths) in
+    record { few = omega arith; within = omega arith }
+
+pub returns-in_err-check_buffer-2 : goal.returns-in_err-check_buffer-2
+returns-in_err-check_buffer-2 c =
+    let a = c.args in
+    let back = c.from_residual-in_err-check_buffer-2 in
+    let p = err_from_is_err_and back.result back.ensures.1 in
+    let known = long (goal.at.returns-in_err-check_buffer-2 c).In_ok-check_lengths in
+    let said =
+    second_below a.r a.n a.p a.y.now a.z.now a.text.now c.in_ok-check_buffer.ensures c.in_err-check_buffer-2.ensures in
+    rw (p.1, p.2) (below_refuses _ _ _ c.in_ok-check_small.ensures known said)
+
+pub put_basis-requires : goal.put_basis-requires
+put_basis-requires c =
+    let a = c.args in
+    let known = long (goal.at.put_basis-requires c).In_ok-check_lengths in
+    let first = basis_first a.r a.n a.p a.y.now a.z.now a.text.now known in
+    let second = basis_second a.r a.n a.p a.y.now a.z.now a.text.now known in
+    let whole = basis_whole a.r a.n a.p a.y.now a.z.now a.text.now known in
+    basis_ready a.r a.n a.p c.in_ok-check_small.ensures.says first second whole c.in_ok-check_buffer.ensures.says
+    c.in_ok-check_buffer-2.ensures.says
 
 pub returns : goal.returns
 returns c =
-    basis_done (passed (goal.at.returns c).In-Done) (omega arith) (omega arith) (omega arith) c.find_over-k.ensures
-    (omega arith)
-    c.find_over-l.ensures (omega arith) c.put_basis-length.ensures
+    let a = c.args in
+    let known = long (goal.at.returns c).In_ok-check_lengths in
+    let said =
+    second_below a.r a.n a.p a.y.now a.z.now a.text.now c.in_ok-check_buffer.ensures c.in_ok-check_buffer-2.ensures in
+    sheet_written _ _ _ c.in_ok-check_small.ensures known said c.put_basis.ensures

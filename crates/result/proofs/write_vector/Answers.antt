@@ -1,69 +1,95 @@
--- `result::write_vector` meets its contract: each test takes rules away or refuses by the first that is left, and where
--- none is left the sheet is put.
+-- `result::write_vector` meets its contract: each check speaks where those before it are silent, and where all are the
+-- sheet is put.
 -- Assumes nothing.
-use mathlib.Core.List.{[], ◌∷◌, ◌++◌}
-use Prim.Native.Nat.{◌*◌, ◌≤◌}
-use native.Mathlib.Omega.{arith}
-use Rattle.job.specs.Refusal.{done, Says}
-use Rattle.job.specs.Job.{bytes}
-use Rattle.job.specs.Rules.{limit_rules, size_rules}
-use Rattle.refusal.proofs.Judged.{judged_done}
-use Rattle.result.proofs.Checks.{limits_refuse, vector_wrong, vector_text, vector_over, vector_done}
+use Rattle.std.proofs.Common.{[], ◌∷◌, ◌*◌, ◌≤◌, Ok, arith}
+use Rattle.std.proofs.lemmas.Result.{err_from_is_err_and}
+use Rattle.refusal.specs.Checked.{Judged}
+use Rattle.refusal.proofs.Products.{bounded_of}
+use Rattle.header.specs.Header.{header}
+use Rattle.result.proofs.Checks.{
+  exact,
+  small_refuses,
+  exact_refuses,
+  below_refuses,
+  sheet_written,
+  vector_exact,
+  vector_below,
+  vector_length,
+  vector_whole,
+}
 use Rattle.result.proofs.Sizes.{limits, rows_few, vector_ready}
 use Rattle.result.proofs.write_vector.Goals as goal
-use Rattle.result.proofs.write_vector.Goals.{In-Done, Start}
+use Rattle.result.proofs.write_vector.Goals.{In_ok-check_small, In_ok-check_lengths}
 
-pub returns-in_default : goal.returns-in_default
-returns-in_default c =
-    let a = c.args in
-    limits_refuse a.r a.n a.p a.kind (a.y.now ∷ []) a.text.now
-    c.check_small-limits.ensures c.in_default.not-Done
+pub returns-in_err-check_small : goal.returns-in_err-check_small
+returns-in_err-check_small c =
+    let p = err_from_is_err_and c.from_residual.result c.from_residual.ensures.1 in
+    rw (p.1, p.2) (small_refuses _ _ _ c.in_err-check_small.ensures)
 
--- behind 1 to 4 and 10
-passed
-    : (c : In-Done)
-    → let a = c.args in
-    Says (limit_rules a.r a.n a.p ++ size_rules bytes a.r a.n) done
-passed c = judged_done c.check_small-limits.ensures c.in-Done.is
-
-few : (c : In-Done) → let a = c.args in (a.rows ≤ 8) × (a.rows * a.n ≤ 1024)
+few : (c : In_ok-check_small) → (c.args.rows ≤ 8) × (c.args.rows * c.args.n ≤ 1024)
 few c =
     let a = c.args in
-    rows_few a.r a.n a.p (passed c) a.kind a.rows c.requires
+    rows_few a.r a.n a.p c.in_ok-check_small.ensures.says a.kind a.rows c.requires
 
 pub overflow_mul-count : goal.overflow_mul-count
 overflow_mul-count c = omega (arith, few c)
 
-pub returns-then-y-count : goal.returns-then-y-count
-returns-then-y-count c =
-    vector_wrong _ c.requires (passed (goal.at.returns-then-y-count c).In-Done) (λ e. c.if-y-count.true (omega arith))
+pub check_lengths-requires : goal.check_lengths-requires
+check_lengths-requires c =
+    let small = few (goal.at.check_lengths-requires c).In_ok-check_small in
+    (omega arith, (omega arith, omega arith, bounded_of _ (omega arith)))
 
-pub returns-then-text-ne65536 : goal.returns-then-text-ne65536
-returns-then-text-ne65536 c =
-    vector_text _ c.requires (passed (goal.at.returns-then-text-ne65536 c).In-Done) (omega arith)
-    (λ e. c.if-text-ne65536.true (omega arith))
+pub returns-in_err-check_lengths : goal.returns-in_err-check_lengths
+returns-in_err-check_lengths c =
+    let a = c.args in
+    let back = c.from_residual-in_err-check_lengths in
+    let p = err_from_is_err_and back.result back.ensures.1 in
+    let said = vector_exact a.kind a.r a.n a.p a.y.now a.text.now a.rows c.requires c.in_err-check_lengths.ensures in
+    rw (p.1, p.2) (exact_refuses _ _ _ c.in_ok-check_small.ensures said)
+
+-- 5 is silent
+long
+    : (c : In_ok-check_lengths)
+    → let a = c.args in
+    Judged (exact (header a.kind a.r a.n a.p) (a.y.now ∷ []) a.text.now) (Ok tt)
+long c =
+    let a = c.args in
+    vector_exact a.kind a.r a.n a.p a.y.now a.text.now a.rows c.requires c.in_ok-check_lengths.ensures
 
 pub overflow_cast-p : goal.overflow_cast-p
 overflow_cast-p c =
     let a = c.args in
-    omega (arith, (limits a.r a.n a.p (passed (goal.at.overflow_cast-p c).In-Done)).half)
+    omega (arith, (limits a.r a.n a.p c.in_ok-check_small.ensures.says).half)
 
-pub overflow_cast-result : goal.overflow_cast-result
-overflow_cast-result c = omega (arith, few (goal.at.overflow_cast-result c).In-Done)
-
-pub returns-then-k-count : goal.returns-then-k-count
-returns-then-k-count c =
-    vector_over _ c.requires (passed (goal.at.returns-then-k-count c).In-Done) (omega arith) (omega arith)
-    c.find_over-k.ensures (omega arith)
-
-pub put_vector-length-requires : goal.put_vector-length-requires
-put_vector-length-requires c =
+pub check_buffer-requires : goal.check_buffer-requires
+check_buffer-requires c =
     let a = c.args in
-    vector_ready a.r a.n a.p (passed (goal.at.put_vector-length-requires c).In-Done) a.kind a.rows c.requires
-    (omega arith) (omega arith) c.find_over-k.ensures (omega arith)
+    let at = goal.at.check_buffer-requires c in
+    let small = few at.In_ok-check_small in
+    let same = vector_length a.kind a.r a.n a.p a.y.now a.text.now a.rows c.requires (long at.In_ok-check_lengths) in
+    record { few = omega arith; within = omega arith }
+
+pub returns-in_err-check_buffer : goal.returns-in_err-check_buffer
+returns-in_err-check_buffer c =
+    let a = c.args in
+    let back = c.from_residual-in_err-check_buffer in
+    let p = err_from_is_err_and back.result back.ensures.1 in
+    let known = long (goal.at.returns-in_err-check_buffer c).In_ok-check_lengths in
+    let said = vector_below a.kind a.r a.n a.p a.y.now a.text.now a.rows c.requires c.in_err-check_buffer.ensures in
+    rw (p.1, p.2) (below_refuses _ _ _ c.in_ok-check_small.ensures known said)
+
+pub put_vector-requires : goal.put_vector-requires
+put_vector-requires c =
+    let a = c.args in
+    let known = long (goal.at.put_vector-requires c).In_ok-check_lengths in
+    let same = vector_length a.kind a.r a.n a.p a.y.now a.text.now a.rows c.requires known in
+    let whole = vector_whole a.kind a.r a.n a.p a.y.now a.text.now a.rows c.requires known in
+    vector_ready a.r a.n a.p c.in_ok-check_small.ensures.says a.kind a.rows c.requires same whole
+    c.in_ok-check_buffer.ensures.says
 
 pub returns : goal.returns
 returns c =
-    vector_done _ c.requires (passed (goal.at.returns c).In-Done) (omega arith) (omega arith) c.find_over-k.ensures
-    (omega arith)
-    c.put_vector-length.ensures
+    let a = c.args in
+    let known = long (goal.at.returns c).In_ok-check_lengths in
+    let said = vector_below a.kind a.r a.n a.p a.y.now a.text.now a.rows c.requires c.in_ok-check_buffer.ensures in
+    sheet_written _ _ _ c.in_ok-check_small.ensures known said c.put_vector.ensures

@@ -1,9 +1,9 @@
 -- `sheet::read_job` meets its contract: the rooms, then the bytes, then line 1 and its limits, then the lines.
 -- Assumes nothing.
-use mathlib.Core.Path.{refl}
-use mathlib.Core.List.{[], ◌∷◌}
-use Rattle.job.specs.Refusal.{done, Says, verdict_of}
-use Rattle.job.proofs.Says.{answer_other}
+use Rattle.std.proofs.Common.{[], ◌∷◌, refl}
+use Rattle.std.proofs.lemmas.Result.{err_from_is_err_and}
+use Rattle.job.specs.Refusal.{done, Says}
+use Rattle.job.specs.Job.{words}
 use Rattle.header.specs.Header.{word_of}
 use Rattle.sheet.specs.JobSheet.{job_forms}
 use Rattle.sheet.specs.Rules.{room_rules}
@@ -11,33 +11,30 @@ use Rattle.sheet.specs.Parts.{Started}
 use Rattle.sheet.proofs.Before.{rooms_roomy, kinds_started, start_large}
 use Rattle.sheet.proofs.Outcomes.{job_led, outcome_rooms, outcome_stop, outcome_taken}
 use Rattle.sheet.proofs.read_job.Goals as goal
-use Rattle.sheet.proofs.read_job.Goals.{After-begin, In-Done}
+use Rattle.sheet.proofs.read_job.Goals.{After-begin, In_ok-check_lengths}
 
-pub returns-in_default : goal.returns-in_default
-returns-in_default c =
-    let r = c.check_rooms-rooms in
+pub returns-in_err-check_lengths : goal.returns-in_err-check_lengths
+unfolding room_rules
+returns-in_err-check_lengths c =
     let a = c.args in
-    outcome_rooms (answer_other r.result c.in_default.not-Done)
-    (r.ensures.says _ a.one.now a.two.now a.three.now refl refl refl refl)
+    let p = err_from_is_err_and c.from_residual.result c.from_residual.ensures.1 in
+    let rooms = a.one.now ∷ a.two.now ∷ a.three.now ∷ [] in
+    rw (p.1, p.2) (outcome_rooms (c.in_err-check_lengths.ensures.says words rooms refl refl))
 
 -- no room is refused
 rooms_done
-    : (c : In-Done) →
+    : (c : In_ok-check_lengths) →
     let a = c.args in
     Says (room_rules (a.one.now ∷ a.two.now ∷ a.three.now ∷ [])) done
-unfolding verdict_of
+unfolding room_rules
 rooms_done c =
     let a = c.args in
-    let checked = rw c.in-Done.is at c.check_rooms-rooms.ensures in
-    checked.says _ a.one.now a.two.now a.three.now refl refl refl refl
+    c.in_ok-check_lengths.ensures.says words (a.one.now ∷ a.two.now ∷ a.three.now ∷ []) refl refl
 
 pub returns-then-s-gt65536 : goal.returns-then-s-gt65536
 returns-then-s-gt65536 c =
-    outcome_stop word_of (rooms_done (goal.at.returns-then-s-gt65536 c).In-Done)
+    outcome_stop word_of (rooms_done (goal.at.returns-then-s-gt65536 c).In_ok-check_lengths)
     (start_large word_of c.if-s-gt65536.true)
-
-pub begin-requires : goal.begin-requires
-begin-requires c = c.if-s-gt65536.false
 
 -- what line 1 and its limits say
 begun
@@ -46,21 +43,24 @@ begun
 unfolding word_of
 begun c = kinds_started job_led c.open_kinds-opening.ensures c.begin.ensures
 
+pub returns-in_err-h : goal.returns-in_err-h
+returns-in_err-h c =
+    let back = c.from_residual-in_err-h in
+    let p = err_from_is_err_and back.result back.ensures.1 in
+    let at = goal.at.returns-in_err-h c in
+    rw (p.1, p.2)
+    (outcome_stop word_of (rooms_done at.In_ok-check_lengths) (rw c.in_err-h.was at (begun at.After-begin)))
+
 pub take_job-requires : goal.take_job-requires
 take_job-requires c =
-    let r = (goal.at.take_job-requires c).In-Done in
-    let a = c.args in (
-      rw c.in-At.is at (begun (goal.at.take_job-requires c).After-begin),
-      rooms_roomy a.one.now a.two.now a.three.now (rooms_done r),
+    let a = c.args in
+    let at = goal.at.take_job-requires c in (
+      rw c.in_ok-h.was at (begun at.After-begin),
+      rooms_roomy a.one.now a.two.now a.three.now (rooms_done at.In_ok-check_lengths),
     )
 
-pub returns-in-At : goal.returns-in-At
-returns-in-At c =
-    let r = (goal.at.returns-in-At c).In-Done in
-    outcome_taken word_of (rooms_done r) job_led (rw c.in-At.is at (begun (goal.at.returns-in-At c).After-begin))
+pub returns : goal.returns
+returns c =
+    let at = goal.at.returns c in
+    outcome_taken word_of (rooms_done at.In_ok-check_lengths) job_led (rw c.in_ok-h.was at (begun at.After-begin))
     c.take_job.ensures
-
-pub returns-in-Stop : goal.returns-in-Stop
-returns-in-Stop c =
-    let r = (goal.at.returns-in-Stop c).In-Done in
-    outcome_stop word_of (rooms_done r) (rw c.in-Stop.is at (begun (goal.at.returns-in-Stop c).After-begin))

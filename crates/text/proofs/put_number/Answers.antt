@@ -1,25 +1,20 @@
 -- `text::put_number` meets its contract: a minus sign where it is wanted, and then the digits of the size.
 -- Assumes nothing.
-use mathlib.Core.Path.{ap, ◌∙◌}
-use lib.IntN.{nat_abs}
-use mir.Facts.{to_z-of_z}
-use Rattle.text.proofs.Machine.{is_negative, is_natural}
+use Rattle.std.proofs.Common.{ap, ◌∙◌, unsigned_abs, to_z-of_z}
 use Rattle.text.proofs.Spelling.{spell_negative, spell_natural}
 use Rattle.text.proofs.Puts.{put_more, put_as}
 use Rattle.text.proofs.put_number.Goals as goal
+use Rattle.text.proofs.put_number.Goals.{then-x-lt0, else-x-lt0}
 
-pub returns-then-x-lt0 : goal.returns-then-x-lt0
-returns-then-x-lt0 c =
-    let size = c.magnitude in
-    let n = is_negative c.args.x c.ranges.x c.if-x-lt0.true in
-    let size_is = size.ensures ∙ ap nat_abs (to_z-of_z c.ranges.x) in
-    put_as (spell_negative c.args.x n.0 size.result n.1 size_is)
-    (put_more c.put_byte-a.ensures c.put_natural.ensures)
-
-pub returns-else-x-lt0 : goal.returns-else-x-lt0
-returns-else-x-lt0 c =
-    let size = c.magnitude-else-x-lt0 in
-    let n = is_natural c.args.x c.ranges.x c.if-x-lt0.false in
-    let size_is = size.ensures ∙ ap nat_abs (to_z-of_z c.ranges.x) in
-    put_as (spell_natural c.args.x n.0 size.result n.1 size_is)
-    c.put_natural-else-x-lt0.ensures
+pub returns : goal.returns
+returns c =
+    let size = c.unsigned_abs.ensures.value ∙ ap unsigned_abs (to_z-of_z c.ranges.x) in
+    let x = to_z-of_z c.ranges.x in
+    elim c.if-x-lt0.branch [
+      | then-x-lt0 w ↦
+          put_as (spell_negative c.args.x _ (rw x at w.if-x-lt0.true) size)
+          (put_more w.put_byte-from.ensures (rw (w.from-is, w.d-is) at c.put_natural.ensures))
+      | else-x-lt0 w ↦
+          put_as (spell_natural c.args.x _ (rw x at w.if-x-lt0.false) size)
+          (rw (w.from-is, w.d-is) at c.put_natural.ensures)
+    ]

@@ -1,77 +1,86 @@
 -- `text::read_natural` meets its contract. The loop's invariant: what is read so far are the digits of n, and whatever
--- number the whole field writes, the rest of the field takes n there. The measure is what is left of the field.
+-- number the whole field writes, the rest of the field takes n there.
 -- Assumes nothing.
-use mathlib.Core.Path.{◌≡◌, refl, subst, ◌∙◌}
-use mathlib.Core.List.{List, [], append-nil}
-use Prim.Native.Nat.{ℕ, suc, ◌<◌, ◌+◌}
-use native.Mathlib.Omega.{arith}
-use native.Mathlib.Numerals.{add-one}
-use lib.ListN.{length, drop, drop_of_length-le}
+use Rattle.std.proofs.Common.{◌≡◌, ℕ, get_or, ◌*◌, ◌-◌, ◌≤◌, ◌∷◌, refl, ◌∙◌, [], append-nil, suc, ◌<◌, ◌+◌, arith}
+use Rattle.std.proofs.Common.{add-one, length, drop, drop_of_length-le}
+use Rattle.std.proofs.lemmas.Slice.Eq.{starts_is}
+use Rattle.std.proofs.lemmas.Bool.Decides.{Decides-eqb}
 use Rattle.text.specs.Decimal.{digits}
-use Rattle.text.proofs.Digits.{Goes, spelled, Ahead, ahead, Goes-step, take_digit}
+use Rattle.text.proofs.Digits.{spelled, Ahead, ahead, Goes-step, take_digit, no_zero, lead, counted}
 use Rattle.text.proofs.read_natural.Goals as goal
-use Rattle.text.proofs.read_natural.Goals.{After-wide-b, then-n-eq0+else-i-gt0, else-n-eq0}
+use Rattle.text.proofs.read_natural.Goals.{In-loop-b}
+use Rattle.text.proofs.read_natural.Goals.{else-f-gt1-via-then-f-gt1+else-starts_with, else-f-gt1-via-else-f-gt1}
+
+pub returns-then-starts_with : goal.returns-then-starts_with
+returns-then-starts_with c = λ x h e.
+    let starts = starts_is Decides-eqb c.args.f.now (48 ∷ []) _ c.starts_with.ensures.value in
+    no_zero c.args.f.now x (omega arith) (starts.0 c.if-starts_with.true) e
+
+pub loop-b-init : goal.loop-b-init
+loop-b-init c =
+    record {
+      most = omega arith;
+      none = λ e. refl;
+      read = λ h. absurd (omega arith);
+      goes = λ x e. spelled c.args.f.now x e;
+    }
 
 -- what a number's digits would have at this byte
-next : (d : After-wide-b) (x : ℕ) → d.args.f.now ≡ digits x
-    → Ahead d.loop-i.i d.loop-i.n d.wide-b.result x
-next d x e =
-    let l = d.loop-i in
-    let f = d.args.f.now in
-    ahead f l.i d.loop-i-test.true l.n d.wide-b.result x d.wide-b.ensures (l.invariant.4 x e)
+next : (c : In-loop-b) (x : ℕ) → c.args.f.now ≡ digits x
+    → Ahead c.loop-b.b-index c.loop-b.n (get_or c.args.f.now c.loop-b.b-index 0) x
+next c x e = ahead c.args.f.now c.loop-b.b-index c.loop-b-test.true c.loop-b.n _ x refl (c.loop-b.invariant.goes x e)
 
-pub loop-i-init : goal.loop-i-init
-loop-i-init c =
-    let f = c.args.f.now in
-    (omega arith, omega arith, (λ e. refl), (λ h. absurd (omega arith)), λ x e. spelled f x e)
+pub returns-then-not-is_ascii_digit : goal.returns-then-not-is_ascii_digit
+returns-then-not-is_ascii_digit c = λ x h e.
+    let known = next (goal.at.returns-then-not-is_ascii_digit c).In-loop-b x e in
+    omega (arith, known.low, known.high, c.if-not-is_ascii_digit.ensures.cases)
 
-pub returns-then-b-lt48 : goal.returns-then-b-lt48
-returns-then-b-lt48 c = λ x h e. omega (arith, (next (goal.at.returns-then-b-lt48 c).After-wide-b x e).low)
+pub returns-in_err-checked_mul : goal.returns-in_err-checked_mul
+returns-in_err-checked_mul c =
+    rw c.from_residual.ensures (λ x h e.
+    let known = next (goal.at.returns-in_err-checked_mul c).In-loop-b x e in
+    omega (arith, known.most, c.in_err-checked_mul.ensures))
 
-pub returns-then-b-gt57 : goal.returns-then-b-gt57
-returns-then-b-gt57 c = λ x h e. omega (arith, (next (goal.at.returns-then-b-gt57 c).After-wide-b x e).high)
-
-pub returns-then-n-gt922337203685477580 : goal.returns-then-n-gt922337203685477580
-returns-then-n-gt922337203685477580 c =
-    λ x h e. omega (arith, (next (goal.at.returns-then-n-gt922337203685477580 c).After-wide-b x e).most, c.requires)
-
-pub returns-then-i-gt0 : goal.returns-then-i-gt0
-returns-then-i-gt0 c =
-    λ x h e.
-    let known = next (goal.at.returns-then-i-gt0 c).After-wide-b x e in
-    omega (arith, known.lead (omega (arith, c.if-i-gt0.true)), c.if-n-eq0.true)
+pub returns-in_err-n : goal.returns-in_err-n
+returns-in_err-n c =
+    rw c.from_residual-in_err-n.ensures (λ x h e.
+    let known = next (goal.at.returns-in_err-n c).In-loop-b x e in
+    omega (arith, known.most, c.in_err-n.ensures, c.in_ok-checked_mul.ensures))
 
 pub returns-then-n-most : goal.returns-then-n-most
-returns-then-n-most c = λ x h e. omega (arith, (next (goal.at.returns-then-n-most c).After-wide-b x e).most)
+returns-then-n-most c = λ x h e.
+    let known = next (goal.at.returns-then-n-most c).In-loop-b x e in
+    omega (arith, known.most, c.in_ok-n.ensures, c.in_ok-checked_mul.ensures)
 
-pub loop-i-preserved : goal.loop-i-preserved
-loop-i-preserved c =
-    let l = c.loop-i in
+pub loop-b-preserved : goal.loop-b-preserved
+loop-b-preserved c =
+    let l = c.loop-b in
+    let i = l.b-index in
     let f = c.args.f.now in
-    let h : l.i < length f = c.loop-i-test.true in
-    let lead : 0 < l.i → 0 < l.n =
-    elim c.if-n-eq0.branch [ then-n-eq0+else-i-gt0 w ↦ λ p. omega (arith, w) | else-n-eq0 w ↦ λ p. omega (arith, w) ] in
-    let b = c.wide-b.ensures in
-    let e : l.i + 1 ≡ suc l.i = add-one l.i in (
-      omega arith,
-      omega arith,
-      (λ z. absurd (omega arith)),
-      (λ z. rw (e, b)
-          (take_digit f l.i h l.n lead l.invariant.2 (omega (arith, b)) (omega (arith, b)) l.invariant.3)),
-      λ x q. rw (e, b) (Goes-step f l.i h l.n x (l.invariant.4 x q)).3,
-    )
-
-pub returns-then-i-eq0 : goal.returns-then-i-eq0
-unfolding Goes
-returns-then-i-eq0 c =
-    let f = c.args.f.now in
-    let l = c.loop-i in
-    let none : drop l.i f ≡ [] = drop_of_length-le f {i = l.i} (omega arith) in
-    λ x h e. omega (arith, (subst (λ (t : List ℕ). Goes l.i l.n t x) none (l.invariant.4 x e)).0)
+    let h : i < length f = c.loop-b-test.true in
+    let e : i + 1 ≡ suc i = add-one i in
+    let above : 0 < i → 0 < l.n = elim c.else-f-gt1.branch [
+      | else-f-gt1-via-then-f-gt1+else-starts_with w ↦
+          let starts = starts_is Decides-eqb f (48 ∷ []) _ w.starts_with.ensures.value in
+          lead f i l.n (λ t q. let h = starts.1 t q in absurd (cc w.if-starts_with.false)) l.invariant.read
+      | else-f-gt1-via-else-f-gt1 w ↦ λ p. omega (arith, w.if-f-gt1.false)
+    ] in
+    let b = get_or f i 0 in
+    let digit = c.if-not-is_ascii_digit.ensures.cases in
+    let low : 48 ≤ b = omega (arith, digit) in
+    let high : b ≤ 57 = omega (arith, digit) in
+    let n : c.in_ok-n.n ≡ l.n * 10 + (b - 48) = omega (arith, c.in_ok-n.ensures, c.in_ok-checked_mul.ensures) in
+    record {
+      most = omega arith;
+      none = λ z. absurd (omega arith);
+      read = λ z. rw (e, n) (take_digit f i h l.n above l.invariant.none low high l.invariant.read);
+      goes = λ x q. rw (e, n) (Goes-step f i h l.n x (l.invariant.goes x q)).3;
+    }
 
 pub returns : goal.returns
 returns c =
     let f = c.args.f.now in
-    let l = c.loop-i in
-    let none : drop l.i f ≡ [] = drop_of_length-le f {i = l.i} (omega arith) in
-    (l.invariant.3 (omega arith) ∙ rw none (append-nil (digits l.n)), l.invariant.1)
+    let l = c.loop-b in
+    let none : drop l.b-index f ≡ [] = drop_of_length-le f {i = l.b-index} (omega arith) in
+    let all : 0 < length f → f ≡ digits l.n = λ h. l.invariant.read (omega arith) ∙ rw none (append-nil (digits l.n)) in
+    rw (c.then_some.ensures, c.is_empty.ensures) (counted f c.args.most l.n all l.invariant.most)

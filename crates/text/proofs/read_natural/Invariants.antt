@@ -1,16 +1,13 @@
--- The invariants and measures.
-use mathlib.Core.Path.{◌≡◌}
-use mathlib.Core.List.{◌++◌}
-use Prim.Native.Nat.{ℕ, ◌≤◌, ◌<◌, ◌-◌}
-use lib.ListN.{length, drop}
+-- What is read so far are the digits of n, and whatever number the whole field writes, the rest takes n there.
+use Rattle.std.proofs.Common.{◌≡◌, ◌++◌, ℕ, ◌≤◌, ◌<◌, drop}
 use Rattle.text.specs.Decimal.{digits}
 use Rattle.text.proofs.Digits.{Goes}
 use Rattle.text.proofs.read_natural.Given as goal
 
-abbrev pub invariant-loop-i : goal.invariant-loop-i
-invariant-loop-i l =
-    (l.i ≤ length l.f) × (l.n ≤ l.most) × (l.i ≡ 0 → l.n ≡ 0) × (0 < l.i → l.f ≡ digits l.n ++ drop l.i l.f)
-    × ((x : ℕ) → l.f ≡ digits x → Goes l.i l.n (drop l.i l.f) x)
-
-abbrev pub decreases-loop-i : goal.decreases-loop-i
-decreases-loop-i l = length l.f - l.i
+abbrev pub invariant-loop-b : goal.invariant-loop-b
+invariant-loop-b l = record {
+  most : l.n ≤ l.most;
+  none : l.b-index ≡ 0 → l.n ≡ 0;
+  read : 0 < l.b-index → l.f ≡ digits l.n ++ drop l.b-index l.f;
+  goes : (x : ℕ) → l.f ≡ digits x → Goes l.b-index l.n (drop l.b-index l.f) x;
+}

@@ -1,30 +1,13 @@
--- `text::reduce` meets its contract: the machine's remainder has the sign of x, and one below 0 wants p more.
+-- `text::reduce` meets its contract: the remainder from 0 on is the residue.
 -- Assumes nothing.
-use mathlib.Core.Path.{ap}
-use lib.IntN.{nat_abs}
-use Rattle.text.proofs.Machine.{quot_fits}
-use Rattle.text.proofs.Classes.{sum_fits, sum_back, sum_cast, rem_is, rem_cast}
+use Rattle.std.proofs.Common.{◌≡◌, ap, ◌∙◌, pos, unsigned_abs, w64, SFits, to_z, to_z-of_z, arith}
+use Rattle.std.proofs.Math.Facts.{to_z_pos}
+use Rattle.text.proofs.Classes.{rem_residue}
 use Rattle.text.proofs.reduce.Goals as goal
 
-pub nonzero_rem-m : goal.nonzero_rem-m
-nonzero_rem-m c = (c.requires, quot_fits c.args.x c.ranges.x c.args.p c.ranges.p.fits)
-
-pub overflow_add-result : goal.overflow_add-result
-overflow_add-result c =
-    sum_fits c.args.x c.ranges.x c.args.p c.ranges.p.fits c.requires c.if-m-lt0.true
-
-pub overflow_cast-result : goal.overflow_cast-result
-overflow_cast-result c =
-    sum_cast c.args.x c.ranges.x c.args.p c.ranges.p.fits c.requires c.if-m-lt0.true
-
-pub overflow_cast-result-else-m-lt0 : goal.overflow_cast-result-else-m-lt0
-overflow_cast-result-else-m-lt0 c =
-    rem_cast c.args.x c.ranges.x c.args.p c.ranges.p.fits c.requires c.if-m-lt0.false
-
-pub returns-then-m-lt0 : goal.returns-then-m-lt0
-returns-then-m-lt0 c =
-    ap nat_abs (sum_back c.args.x c.ranges.x c.args.p c.ranges.p.fits c.requires c.if-m-lt0.true)
-
-pub returns-else-m-lt0 : goal.returns-else-m-lt0
-returns-else-m-lt0 c =
-    ap nat_abs (rem_is c.args.x c.ranges.x c.args.p c.ranges.p.fits c.requires c.if-m-lt0.false)
+pub returns : goal.returns
+returns c =
+    let fits : SFits w64 c.rem_euclid.result = record { sfits = c.rem_euclid.type_inv } in
+    let p : to_z w64 c.args.p ≡ pos c.args.p = to_z_pos w64 {n = c.args.p} (omega arith) in
+    ap unsigned_abs (to_z-of_z fits ∙ c.rem_euclid.ensures.value)
+    ∙ rw (to_z-of_z c.ranges.x, p) (rem_residue c.args.x c.args.p c.requires)
