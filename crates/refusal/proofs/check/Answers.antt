@@ -5,22 +5,7 @@ use Rattle.std.proofs.lemmas.Result.{err_from_is_err_and}
 use Rattle.job.specs.Job.{Job, buffers}
 use Rattle.job.specs.Refusal.{Answer}
 use Rattle.refusal.specs.Checked.{Judged, Compared, job_of}
-use Rattle.refusal.proofs.Call.{
-  cells_few,
-  exact,
-  sizes_stop,
-  sizes_known,
-  lengths_judged,
-  lengths_stop,
-  Passed,
-  read_one,
-  read_two,
-  read_three,
-  first_stop,
-  second_stop,
-  two_read,
-  third_judged,
-}
+use Rattle.refusal.proofs.Call.{exact, sizes_stop, sizes_known, lengths_judged, lengths_stop, Passed, read_one, read_two, read_three, first_stop, second_stop, two_read, third_judged}
 use Rattle.refusal.proofs.check.Goals as goal
 use Rattle.refusal.proofs.check.Given as given
 use Rattle.refusal.proofs.check.Goals.{After-CELLS, In_ok-check_lengths}
@@ -34,12 +19,6 @@ pub lengths_of-should-requires : goal.lengths_of-should-requires
 lengths_of-should-requires g c =
     let limits = sizes_known g.C.Cell.handed c.in_ok-check_size.ensures in
     (limits.order, limits.terms)
-
-pub check_lengths-requires : goal.check_lengths-requires
-check_lengths-requires g c =
-    let few = cells_few g.C.Cell.handed in
-    let cells = g.met.C.Cell.laws.0 in
-    (omega arith, (omega arith, omega arith, c.lengths_of-should.ensures.bounded))
 
 -- the job that is handed over
 abbrev job : (g : given.Over) → After-CELLS g → Job
