@@ -18,7 +18,7 @@ fn pass(c: &mut Cursor, end: usize, lines: usize, tabs: usize)
     ensures { c.new ≡ place_past c.old end lines tabs }
 {
     c.byte = end;
-    c.line = c.line + lines;
+    c.line += lines;
     c.field = tabs;
 }
 

