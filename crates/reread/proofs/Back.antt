@@ -105,8 +105,8 @@ put_first s text l =
     }
 
 -- a text that the reader takes
-module _ {s one two : List ℕ} {x : Result Header Refusal} {after : List (List ℕ)} (o : ResultOutcome s (one ∷ two ∷ []) x after)
-    (d : verdict_of x ≡ done) where
+module _ {s one two : List ℕ} {x : Result Header Refusal} {after : List (List ℕ)}
+    (o : ResultOutcome s (one ∷ two ∷ []) x after) (d : verdict_of x ≡ done) where
   abbrev rooms : List (List ℕ)
   rooms = one ∷ two ∷ []
 

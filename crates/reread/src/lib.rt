@@ -95,8 +95,8 @@ fn fill_rooms(p: u32, w: &[i64], l: Counts, one: &mut [u32], two: &mut [u32])
     ensures { Filled p (nth w.now) 0 l.one one.old one.new
         × Filled p (nth w.now) l.one l.two two.old two.new }
 {
-    sheet::fill(p, w, 0, l.one, one);
-    sheet::fill(p, w, l.one, l.two, two);
+    sheet::fill(p, &w[0..l.one], one);
+    sheet::fill(p, &w[l.one..l.one + l.two], two);
 }
 
 // Behind a header that nothing refuses: the lines, and where they are a whole sheet, the rooms.

@@ -5,7 +5,21 @@ use Rattle.std.proofs.lemmas.Result.{err_from_is_err_and}
 use Rattle.job.specs.Job.{Job, buffers}
 use Rattle.job.specs.Refusal.{Answer}
 use Rattle.refusal.specs.Checked.{Judged, Compared, job_of}
-use Rattle.refusal.proofs.Call.{exact, sizes_stop, sizes_known, lengths_judged, lengths_stop, Passed, read_one, read_two, read_three, first_stop, second_stop, two_read, third_judged}
+use Rattle.refusal.proofs.Call.{
+  exact,
+  sizes_stop,
+  sizes_known,
+  lengths_judged,
+  lengths_stop,
+  Passed,
+  read_one,
+  read_two,
+  read_three,
+  first_stop,
+  second_stop,
+  two_read,
+  third_judged,
+}
 use Rattle.refusal.proofs.check.Goals as goal
 use Rattle.refusal.proofs.check.Given as given
 use Rattle.refusal.proofs.check.Goals.{After-CELLS, In_ok-check_lengths}
