@@ -37,7 +37,8 @@ module _ {kind : Kind} {r n p : ℕ} {one two three four five c d : List ℕ}
     answered_refused answered = outcome_kept (decoded fitting answered) answered.outcome
 
     module _ (answered : Answered kind r n p one two three c d (Ok tt)) {four' five' : List ℕ}
-        (four_long : length four' ≡ length four) (four_is : Encoded d four') (five_long : length five' ≡ length five) (five-is : Zeros five')
+        (four_long : length four' ≡ length four) (four_is : Encoded d four') (five_long : length five' ≡ length five)
+        (five-is : Zeros five')
       where
         -- the third buffer is only read
         pub vector_done : 2 < read_count kind

@@ -177,7 +177,7 @@ fn vector(g: Given, four: &mut [u8], five: &mut [u8]) -> Result<(), Refusal>
     run_vector(g, four, five, &mut c[..k], &mut d[..l])
 }
 
-// Does a basis job that fits; c and d are rooms of words for Y and Z.
+// Does a basis job that fits; c and d are rooms of words for Y and Z. It takes no `Given`, since y is written too.
 fn run_basis(
     r: u64,
     n: u64,

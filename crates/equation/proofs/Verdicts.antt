@@ -44,7 +44,8 @@ module _ (r n p : ℕ) (lent : Buffers) where
     -- neither does
     pub check_done : lead_of ≢ 0 → Judged (call_rules words (job_of Equation r n p lent)) (Ok tt)
     unfolding call_rules kind_rules
-    check_done some = judged_next checked (record { says = says_past _ _ done (λ z. some (sym lead_place ∙ z)) says_none })
+    check_done some =
+        judged_next checked (record { says = says_past _ _ done (λ z. some (sym lead_place ∙ z)) says_none })
 
 -- an accepted call
 module _ {r n p : ℕ} {a b start y w : List ℕ} (given : Accepted words (job_of Equation r n p (buffers a b start y w)))

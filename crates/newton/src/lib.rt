@@ -32,6 +32,7 @@ fn invert_start(p: u32, r: usize, y0: &[u32], s: &mut [u32]) -> bool
 }
 
 // Finds the basis in a room: A, Y0 and its inverse, which stands in s from word r * r on, are put into their places.
+// `place_matrix` begins with the same two calls: a function for two calls would be no plainer.
 fn find_basis(g: Shape, a: &[u32], y0: &[u32], s: &[u32], w: &mut [u32])
     requires { Ready g.q g.r g.n a.now y0.now s.now w.old }
     ensures { Found g.q.p g.r g.n a.now y0.now w.new }
@@ -133,7 +134,7 @@ fn find_solution(g: Shape, a: &[u32], b: &[u32], v: &[u32], w: &mut [u32])
     ladder::solve_system(g, w);
 }
 
-// Does an accepted job: the solution goes to y, and the room is cleared again.
+// Does an accepted job: the solution goes to y, and the room is cleared again. It shares two calls with `run_basis`.
 fn run_system(g: Shape, a: &[u32], b: &[u32], v: &[u32], y: &mut [u32], work: &mut [u32])
     requires { SystemReady g.q g.r g.n a.now b.now v.now work.old × (length y.old ≡ g.r * g.n) }
     ensures { SystemRan g.q.p g.r g.n a.now b.now v.now y.new
