@@ -10,7 +10,7 @@ ghost use Rattle.job.specs.Outcome.{Outcome};
 ghost use Rattle.refusal.specs.Checked.{job_of};
 ghost use Rattle.bytejobs.specs.Solvers.{kind_of, read_of, Roomy, Sized, Fitted, Answered};
 
-use job::{Kind, Refusal};
+use job::{Header, Kind, Refusal};
 
 // A job on words: its kind, and the method. An enum, since each impl of a trait would write out the head of `solve`.
 #[derive(Clone, Copy)]
@@ -62,7 +62,8 @@ fn solve(
     }
 }
 
-// What is given of a job on bytes: what solves it, its numbers, and the first three buffers.
+// What is given of a job on bytes: what solves it, its numbers, and the first three buffers. The solver says the kind,
+// so no header is held here, which could say another.
 #[derive(Clone, Copy)]
 struct Given<'a> {
     solver: Solver,
@@ -159,7 +160,12 @@ fn vector(g: Given, four: &mut [u8], five: &mut [u8]) -> Result<(), Refusal>
         result
         (buffers h.one.now h.two.now h.three.now four.new five.new) }
 {
-    let kind = kind_of(g.solver);
+    let h = Header {
+        kind: kind_of(g.solver),
+        r: g.r,
+        n: g.n,
+        p: g.p,
+    };
     let lengths = [
         g.one.len(),
         g.two.len(),
@@ -167,8 +173,8 @@ fn vector(g: Given, four: &mut [u8], five: &mut [u8]) -> Result<(), Refusal>
         four.len(),
         five.len(),
     ];
-    if !octets::fits(kind, g.r, g.n, lengths) {
-        return refusal::check_bytes(kind, g.r, g.n, g.p, g.one, g.two, g.three, four, five);
+    if !octets::fits(h, lengths) {
+        return refusal::check_bytes(h, g.one, g.two, g.three, four, five);
     }
     let mut c = [0u32; 8];
     let mut d = [0u32; 1024];
@@ -231,9 +237,15 @@ pub fn basis(
         result
         (buffers a.now y0.now y.new z.new work.new) }
 {
+    let h = Header {
+        kind: Kind::Basis,
+        r,
+        n,
+        p,
+    };
     let lengths = [a.len(), y0.len(), y.len(), z.len(), work.len()];
-    if !octets::fits(Kind::Basis, r, n, lengths) {
-        return refusal::check_bytes(Kind::Basis, r, n, p, a, y0, y, z, work);
+    if !octets::fits(h, lengths) {
+        return refusal::check_bytes(h, a, y0, y, z, work);
     }
     let mut c = [0u32; 1024];
     let mut d = [0u32; 1024];

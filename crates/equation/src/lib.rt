@@ -11,7 +11,7 @@ ghost use Rattle.refusal.specs.Checked.{job_of, Judged};
 ghost use Rattle.equation.specs.Translation.{Dividable, RowDivided, Translatable, Translated};
 ghost use Rattle.equation.specs.Equation.{Ready, Ran, Placed};
 
-use job::{Kind, Refusal};
+use job::{Header, Kind, Refusal};
 use residue::Shape;
 
 // Writes the quotients of -a_0, .., -a_(r-1) by a_r to the words of w from `row` on, n words for each. `lead` is the
@@ -123,7 +123,13 @@ fn check(
         (buffers a.now b.now start.now y.now work.now)))
         result }
 {
-    refusal::check_words(Kind::Equation, r, n, p, a, b, start, y, work)?;
+    let h = Header {
+        kind: Kind::Equation,
+        r,
+        n,
+        p,
+    };
+    refusal::check_words(h, a, b, start, y, work)?;
     let order = r as usize;
     let lead = order * (n as usize);
     if a[lead] == 0 {

@@ -14,7 +14,7 @@ use Rattle.cursor.specs.declared.Cursor.{Cursor}
 use Rattle.lines.specs.declared.BrokenLine.{BrokenLine}
 use Rattle.lines.specs.Steps.{nth, Passed, Read}
 use Rattle.lines.proofs.Passes.{broken-one}
-use Rattle.header.specs.declared.Header.{Header}
+use Rattle.job.specs.declared.Header.{Header}
 use Rattle.header.specs.Header.{header_form, TenDigits}
 use Rattle.header.specs.Opened.{Tens, Named, Opens}
 

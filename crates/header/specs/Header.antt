@@ -6,7 +6,7 @@ use Rattle.job.specs.declared.Kind.{Kind}
 use Rattle.job.specs.declared.Kind.TheVariants.{System, Basis, Equation}
 use Rattle.text.specs.Lines.{Form}
 use Rattle.lines.specs.Forms.{shaped, numbered}
-use Rattle.header.specs.declared.Header.{Header}
+use Rattle.job.specs.declared.Header.{Header}
 
 abbrev pub header : Kind → ℕ → ℕ → ℕ → Header
 header kind r n p = record { kind = kind; r = r; n = n; p = p }

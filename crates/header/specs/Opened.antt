@@ -5,7 +5,7 @@ use Rattle.job.specs.declared.Kind.{Kind}
 use Rattle.text.specs.Lines.{Within, Begins}
 use Rattle.cursor.specs.declared.Cursor.{Cursor}
 use Rattle.lines.specs.Steps.{nth, Placed}
-use Rattle.header.specs.declared.Header.{Header}
+use Rattle.job.specs.declared.Header.{Header}
 use Rattle.header.specs.Header.{header_form, TenDigits}
 
 -- three numbers of at most 10 digits

@@ -4,17 +4,8 @@
 ghost use Rattle.header.specs.Opened.{Tens, Named, OpenedAs};
 
 use cursor::Cursor;
-use job::Kind;
+use job::{Header, Kind};
 use lines::Numbers;
-
-// What line 1 of a sheet says.
-#[derive(Clone, Copy)]
-pub struct Header {
-    pub kind: Kind,
-    pub r: u64,
-    pub n: u64,
-    pub p: u64,
-}
 
 // The header of a kind and three numbers.
 fn make_header(kind: Kind, w: [i64; 3]) -> Header

@@ -9,7 +9,7 @@ ghost use Rattle.refusal.specs.Checked.{job_of};
 ghost use Rattle.newton.specs.Basis.{Spreadable, Spread, units, Startable, StartInverted, Ready, Found, Ran};
 ghost use Rattle.newton.specs.System.{Placeable, Placed, SystemReady, SystemFound, SystemRan};
 
-use job::{Kind, Refusal};
+use job::{Header, Kind, Refusal};
 use residue::Shape;
 
 // Puts the words of src from `from` on into the first terms of the entries from word `at` on, a word to an entry.
@@ -86,7 +86,13 @@ pub fn basis(
         result
         (buffers a.now y0.now y.new z.new work.new) }
 {
-    refusal::check_words(Kind::Basis, r, n, p, a, y0, y, z, work)?;
+    let h = Header {
+        kind: Kind::Basis,
+        r,
+        n,
+        p,
+    };
+    refusal::check_words(h, a, y0, y, z, work)?;
     let mut s = [0u32; 128];
     if !invert_start(p as u32, r as usize, y0, &mut s) {
         return Err(Refusal::Singular);
@@ -164,7 +170,13 @@ pub fn system(
         result
         (buffers a.now b.now v.now y.new work.new) }
 {
-    refusal::check_words(Kind::System, r, n, p, a, b, v, y, work)?;
+    let h = Header {
+        kind: Kind::System,
+        r,
+        n,
+        p,
+    };
+    refusal::check_words(h, a, b, v, y, work)?;
     let q = residue::make_modulus(p as u32);
     let g = Shape {
         q,

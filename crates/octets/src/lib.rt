@@ -6,7 +6,7 @@ ghost use Rattle.prime.specs.Test.{Decides};
 ghost use Rattle.room.specs.Room.{Zeros};
 ghost use Rattle.octets.specs.Octets.{Carries, WordPut, Encoded, Small, Fitting};
 
-use job::Kind;
+use job::Header;
 
 // Reads the words of s into w.
 pub fn decode(s: &[u8], w: &mut [u32])
@@ -54,13 +54,13 @@ fn is_small(r: u64, n: u64) -> bool
 }
 
 // Is it such a job, and have its buffers just the bytes that it needs?
-pub fn fits(kind: Kind, r: u64, n: u64, lengths: [usize; 5]) -> bool
-    ensures { Decides result (Fitting kind r n lengths) }
+pub fn fits(h: Header, lengths: [usize; 5]) -> bool
+    ensures { Decides result (Fitting h.kind h.r h.n lengths) }
 {
-    if !is_small(r, n) {
+    if !is_small(h.r, h.n) {
         return false;
     }
-    let should = refusal::lengths_of(kind, r as usize, n as usize);
+    let should = refusal::lengths_of(h);
     for b in 0..5 {
         if lengths[b] != 4 * should[b] {
             return false;

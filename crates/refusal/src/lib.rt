@@ -7,9 +7,9 @@ ghost use Rattle.job.specs.Job.{buffers, Handed, words, bytes, cells_of, word_at
 ghost use Rattle.job.specs.Rules.{limit_rules, size_rules, word_rules};
 ghost use Rattle.refusal.specs.Checked.{Judged, job_of, Checked, Bounded, Measured, Compared, Readable};
 
-use job::{Kind, Refusal};
+use job::{Header, Kind, Refusal};
 
-// Refusals 1 to 4: order, terms, modulus, terms over the modulus.
+// Refusals 1 to 4: order, terms, modulus, terms over the modulus. Three numbers and no header: no kind has a say here.
 pub fn check_limits(r: u64, n: u64, p: u64) -> Result<(), Refusal>
     ensures { Judged (limit_rules r n p) result }
 {
@@ -40,15 +40,17 @@ pub fn check_small(r: u64, n: u64, p: u64) -> Result<(), Refusal>
 }
 
 // The words of each buffer, by number.
-pub fn lengths_of(kind: Kind, r: usize, n: usize) -> [usize; 5]
-    requires { (r ≤ 8) × (n ≤ 4096) }
-    ensures { Measured kind r n result }
+pub fn lengths_of(h: Header) -> [usize; 5]
+    requires { (h.r ≤ 8) × (h.n ≤ 4096) }
+    ensures { Measured h.kind h.r h.n result }
 {
+    let r = h.r as usize;
+    let n = h.n as usize;
     let square = r * r;
     let matrix = square * n;
     let vector = r * n;
     let room = 16 * matrix;
-    match kind {
+    match h.kind {
         Kind::System => [matrix, vector, r, vector, room],
         Kind::Basis => [matrix, square, matrix, matrix, room],
         Kind::Equation => [(r + 1) * n, n, r, n, room],
@@ -165,10 +167,7 @@ pub fn check_buffer<C: Cell>(p: u32, b: u8, s: &[C], count: usize) -> Result<(),
 
 // Refusals 1 to 6, for bytes with 10 behind 4.
 fn check<C: Cell>(
-    kind: Kind,
-    r: u64,
-    n: u64,
-    p: u64,
+    h: Header,
     one: &[C],
     two: &[C],
     three: &[C],
@@ -176,18 +175,18 @@ fn check<C: Cell>(
     five: &[C],
 ) -> Result<(), Refusal>
     ensures { Checked C.handed
-        (job_of kind r n p
+        (job_of h.kind h.r h.n h.p
         (buffers (C.seen one.now) (C.seen two.now) (C.seen three.now) (C.seen four.now) (C.seen five.now)))
         result }
 {
-    C::check_size(r, n, p)?;
-    let should = lengths_of(kind, r as usize, n as usize);
+    C::check_size(h.r, h.n, h.p)?;
+    let should = lengths_of(h);
     let are = [one.len(), two.len(), three.len(), four.len(), five.len()];
     check_lengths(C::CELLS, should, are)?;
-    let q = p as u32;
+    let q = h.p as u32;
     check_buffer(q, 1, one, should[0])?;
     check_buffer(q, 2, two, should[1])?;
-    match kind {
+    match h.kind {
         Kind::Basis => Ok(()),
         Kind::System | Kind::Equation => check_buffer(q, 3, three, should[2]),
     }
@@ -195,10 +194,7 @@ fn check<C: Cell>(
 
 // Refusals 1 to 6, on words.
 pub fn check_words(
-    kind: Kind,
-    r: u64,
-    n: u64,
-    p: u64,
+    h: Header,
     one: &[u32],
     two: &[u32],
     three: &[u32],
@@ -206,19 +202,16 @@ pub fn check_words(
     five: &[u32],
 ) -> Result<(), Refusal>
     ensures { Checked words
-        (job_of kind r n p
+        (job_of h.kind h.r h.n h.p
         (buffers one.now two.now three.now four.now five.now))
         result }
 {
-    check(kind, r, n, p, one, two, three, four, five)
+    check(h, one, two, three, four, five)
 }
 
 // Refusals 1 to 6, on bytes, with 10 behind 4.
 pub fn check_bytes(
-    kind: Kind,
-    r: u64,
-    n: u64,
-    p: u64,
+    h: Header,
     one: &[u8],
     two: &[u8],
     three: &[u8],
@@ -226,9 +219,9 @@ pub fn check_bytes(
     five: &[u8],
 ) -> Result<(), Refusal>
     ensures { Checked bytes
-        (job_of kind r n p
+        (job_of h.kind h.r h.n h.p
         (buffers one.now two.now three.now four.now five.now))
         result }
 {
-    check(kind, r, n, p, one, two, three, four, five)
+    check(h, one, two, three, four, five)
 }

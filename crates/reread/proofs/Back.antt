@@ -41,7 +41,7 @@ use Rattle.text.specs.Lines.{lines}
 use Rattle.text.specs.Put.{Put}
 use Rattle.text.proofs.Lines.{lines_ext}
 use Rattle.text.proofs.Classes.{balanced_class}
-use Rattle.header.specs.declared.Header.{Header}
+use Rattle.job.specs.declared.Header.{Header}
 use Rattle.sheet.specs.Rules.{room_rules, open_rules, line_rules, sheet_rules}
 use Rattle.sheet.specs.Read.{Taken}
 use Rattle.sheet.proofs.Outcomes.{limited_limits, limited-small}

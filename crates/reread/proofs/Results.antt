@@ -15,7 +15,7 @@ use Rattle.lines.specs.declared.Numbers.{Numbers}
 use Rattle.lines.specs.Forms.{matrix_forms}
 use Rattle.lines.specs.Steps.{Placed, Ready}
 use Rattle.lines.proofs.Forms.{total-rows, total-matrix}
-use Rattle.header.specs.declared.Header.{Header}
+use Rattle.job.specs.declared.Header.{Header}
 use Rattle.header.specs.Header.{header_form}
 use Rattle.body.specs.Parts.{Small}
 use Rattle.body.proofs.Totals.{sum_of}

@@ -5,7 +5,7 @@ use Rattle.std.proofs.Common.{◌≡◌, List, ℕ, ℤ, Result}
 use Rattle.job.specs.declared.Refusal.{Refusal}
 use Rattle.text.specs.Lines.{total}
 use Rattle.text.proofs.Lines.{Agree}
-use Rattle.header.specs.declared.Header.{Header}
+use Rattle.job.specs.declared.Header.{Header}
 use Rattle.sheet.specs.Sheet.{Sheet}
 use Rattle.sheet.proofs.Unique.{sheet_unique, outcome_unique}
 use Rattle.result.specs.ResultSheet.{result_forms, result_lengths}

@@ -44,7 +44,7 @@ use Rattle.text.proofs.Digits.{below_or}
 use Rattle.text.proofs.Lines.{Agree}
 use Rattle.text.proofs.Classes.{residue-below, balanced_unique}
 use Rattle.lines.specs.Forms.{shaped, numbered, row_forms, matrix_forms}
-use Rattle.header.specs.declared.Header.{Header}
+use Rattle.job.specs.declared.Header.{Header}
 use Rattle.body.proofs.Totals.{sum_of}
 use Rattle.result.specs.ResultSheet.{balanced_form, result_lines, result_forms, result_lengths, result_numbers}
 use Rattle.reread.proofs.Results.{result_total}

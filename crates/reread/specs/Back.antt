@@ -1,7 +1,7 @@
 -- A result sheet written and taken back.
 -- Assumes nothing.
 use Rattle.std.specs.Prelude.{◌≡◌, refl, List, [], ◌∷◌, ◌++◌, ℕ, length, drop, Ok}
-use Rattle.header.specs.declared.Header.{Header}
+use Rattle.job.specs.declared.Header.{Header}
 use Rattle.result.specs.ResultSheet.{result_lengths}
 use Rattle.result.specs.Write.{WriteOutcome}
 

@@ -2,7 +2,7 @@
 -- Assumes nothing.
 use Rattle.std.specs.Prelude.{List, ℕ, Result}
 use Rattle.job.specs.declared.Refusal.{Refusal}
-use Rattle.header.specs.declared.Header.{Header}
+use Rattle.job.specs.declared.Header.{Header}
 use Rattle.sheet.specs.Read.{ReadOutcome}
 use Rattle.result.specs.ResultSheet.{result_forms, result_lengths}
 

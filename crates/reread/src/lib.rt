@@ -12,8 +12,7 @@ ghost use Rattle.reread.specs.Read.{ResultOutcome};
 ghost use Rattle.reread.specs.Parts.{Counted, Awaited, Roomy, Fillable};
 
 use cursor::Cursor;
-use header::Header;
-use job::{Kind, Refusal};
+use job::{Header, Kind, Refusal};
 use lines::{BrokenLine, Numbers};
 
 // The words of y, or of Y and of Z.

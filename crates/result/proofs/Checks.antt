@@ -30,7 +30,7 @@ use Rattle.job.proofs.Accepted.{WordsBelow, length_of_lem, words_silent}
 use Rattle.refusal.specs.Checked.{Judged, Compared}
 use Rattle.refusal.proofs.Judged.{judged_next, judged_stop, judged_last}
 use Rattle.text.specs.Put.{Put}
-use Rattle.header.specs.declared.Header.{Header}
+use Rattle.job.specs.declared.Header.{Header}
 use Rattle.header.specs.Header.{header}
 use Rattle.result.specs.ResultSheet.{result_counts, result_lengths, result_text}
 use Rattle.result.specs.Write.{write_rules, WriteOutcome}

@@ -47,7 +47,7 @@ use Rattle.text.specs.Put.{Put}
 use Rattle.text.proofs.Classes.{balanced_range}
 use Rattle.text.proofs.Lines.{ranged_append}
 use Rattle.lines.specs.Forms.{numbered, row_forms, matrix_forms}
-use Rattle.header.specs.declared.Header.{Header}
+use Rattle.job.specs.declared.Header.{Header}
 use Rattle.header.specs.Header.{header}
 use Rattle.sheet.specs.Sheet.{Sheet}
 use Rattle.result.specs.ResultSheet.{

@@ -27,7 +27,7 @@ use Rattle.text.specs.Lines.{Form, items, lines, total}
 use Rattle.text.proofs.Lines.{lines-append}
 use Rattle.lines.proofs.Forms.{total-matrix}
 use Rattle.lines.specs.Forms.{row_forms, matrix_forms}
-use Rattle.header.specs.declared.Header.{Header}
+use Rattle.job.specs.declared.Header.{Header}
 use Rattle.header.specs.Header.{header, header_form}
 use Rattle.result.specs.ResultSheet.{
   balanced_form,

@@ -5,7 +5,7 @@ use Rattle.job.specs.declared.Refusal.{Refusal}
 use Rattle.job.specs.Refusal.{Verdict, done, refused, verdict_of}
 use Rattle.job.proofs.Says.{refused_not_done, says_unique}
 use Rattle.job.proofs.Unique.{refusal_same}
-use Rattle.header.specs.declared.Header.{Header}
+use Rattle.job.specs.declared.Header.{Header}
 use Rattle.result.specs.Write.{write_rules, WriteOutcome}
 
 -- two refusals with one number and the same places are the same answer

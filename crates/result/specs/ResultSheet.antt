@@ -11,7 +11,7 @@ use Rattle.text.specs.Decimal.{digits, digits_up_to}
 use Rattle.text.specs.Class.{balanced}
 use Rattle.text.specs.Lines.{Form, items, lines}
 use Rattle.lines.specs.Forms.{shaped, row_forms, matrix_forms}
-use Rattle.header.specs.declared.Header.{Header}
+use Rattle.job.specs.declared.Header.{Header}
 use Rattle.header.specs.Header.{header, word_of, header_form}
 
 -- numbers c with -p < 2c <= p

@@ -7,7 +7,7 @@ use Rattle.job.specs.Refusal.{done, refused, Rule, Says, verdict_of}
 use Rattle.job.specs.Job.{words, bytes}
 use Rattle.job.specs.Rules.{limit_rules, size_rules, length_rules, read_rules}
 use Rattle.text.specs.Put.{Put}
-use Rattle.header.specs.declared.Header.{Header}
+use Rattle.job.specs.declared.Header.{Header}
 use Rattle.result.specs.ResultSheet.{result_lengths, result_text}
 
 -- all refusals of a writer, for a header, the buffers of words lent and the text lent

@@ -15,7 +15,7 @@ ghost use Rattle.result.specs.ResultSheet.{balanced_form, result_words, result_t
 ghost use Rattle.result.specs.Print.{places_of, number_at, Ready, line_room, Rows, VectorReady, BasisReady};
 ghost use Rattle.result.specs.Write.{WriteOutcome};
 
-use job::{Kind, Refusal};
+use job::{Header, Kind, Refusal};
 
 // Number, first place and second place.
 #[derive(Clone, Copy)]
@@ -181,58 +181,50 @@ fn put_lead(d: &mut [u8], kind: Kind) -> usize
 }
 
 // Line 1.
-fn put_header(d: &mut [u8], kind: Kind, r: u64, n: u64, p: u64) -> usize
+fn put_header(d: &mut [u8], h: Header) -> usize
     requires { 79 ≤ length d.old }
-    ensures { Put 0 ((header_form (result_words kind) (header kind r n p)).head ++ (10 ∷ []))
+    ensures { Put 0 ((header_form (result_words h.kind) h).head ++ (10 ∷ []))
         d.old d.new result }
 {
-    let a = put_lead(d, kind);
-    put_three(d, a, r, n, p)
+    let a = put_lead(d, h.kind);
+    put_three(d, a, h.r, h.n, h.p)
 }
 
 // The sheet of y, of so many rows.
-fn put_vector(d: &mut [u8], kind: Kind, rows: usize, r: u64, n: u64, p: u64, y: &[u32]) -> usize
-    requires { VectorReady kind r rows n p y.now d.old }
-    ensures { Put 0 (result_text (header kind r n p) (y.now ∷ []))
+fn put_vector(d: &mut [u8], h: Header, rows: usize, y: &[u32]) -> usize
+    requires { VectorReady h.kind h.r rows h.n h.p y.now d.old }
+    ensures { Put 0 (result_text h (y.now ∷ []))
         d.old d.new result }
 {
-    let a = put_header(d, kind, r, n, p);
-    put_rows(d, a, b"y", rows, y, n as usize, p as u32)
+    let a = put_header(d, h);
+    put_rows(d, a, b"y", rows, y, h.n as usize, h.p as u32)
 }
 
 // The sheet of Y and Z.
-fn put_basis(d: &mut [u8], r: u64, n: u64, p: u64, y: &[u32], z: &[u32]) -> usize
-    requires { BasisReady r n p y.now z.now d.old }
-    ensures { Put 0 (result_text (header Basis r n p) (y.now ∷ z.now ∷ []))
+fn put_basis(d: &mut [u8], h: Header, y: &[u32], z: &[u32]) -> usize
+    requires { (h.kind ≡ Basis) × BasisReady h.r h.n h.p y.now z.now d.old }
+    ensures { Put 0 (result_text h (y.now ∷ z.now ∷ []))
         d.old d.new result }
 {
-    let order = r as usize;
-    let terms = n as usize;
-    let modulus = p as u32;
-    let a = put_header(d, Kind::Basis, r, n, p);
+    let order = h.r as usize;
+    let terms = h.n as usize;
+    let modulus = h.p as u32;
+    let a = put_header(d, h);
     let b = put_matrix(d, a, b'Y', order, y, terms, modulus);
     put_matrix(d, b, b'Z', order, z, terms, modulus)
 }
 
 // The writer for y of so many rows.
-fn write_vector(
-    kind: Kind,
-    rows: u64,
-    r: u64,
-    n: u64,
-    p: u64,
-    y: &[u32],
-    text: &mut [u8],
-) -> Result<usize, Refusal>
-    requires { Rows kind r rows }
-    ensures { WriteOutcome (header kind r n p) (y.now ∷ [])
+fn write_vector(h: Header, rows: u64, y: &[u32], text: &mut [u8]) -> Result<usize, Refusal>
+    requires { Rows h.kind h.r rows }
+    ensures { WriteOutcome h (y.now ∷ [])
         text.old result text.new }
 {
-    refusal::check_small(r, n, p)?;
-    let count = (rows * n) as usize;
+    refusal::check_small(h.r, h.n, h.p)?;
+    let count = (rows * h.n) as usize;
     refusal::check_lengths(1, [count, 65536], [y.len(), text.len()])?;
-    refusal::check_buffer(p as u32, 1, y, count)?;
-    Ok(put_vector(text, kind, rows as usize, r, n, p, y))
+    refusal::check_buffer(h.p as u32, 1, y, count)?;
+    Ok(put_vector(text, h, rows as usize, y))
 }
 
 // The result sheet of a system, y of r rows with n terms each.
@@ -240,7 +232,13 @@ pub fn write_system(r: u64, n: u64, p: u64, y: &[u32], text: &mut [u8]) -> Resul
     ensures { WriteOutcome (header System r n p) (y.now ∷ [])
         text.old result text.new }
 {
-    write_vector(Kind::System, r, r, n, p, y, text)
+    let h = Header {
+        kind: Kind::System,
+        r,
+        n,
+        p,
+    };
+    write_vector(h, r, y, text)
 }
 
 // The result sheet of an equation, y of n terms.
@@ -248,7 +246,13 @@ pub fn write_equation(r: u64, n: u64, p: u64, y: &[u32], text: &mut [u8]) -> Res
     ensures { WriteOutcome (header Equation r n p) (y.now ∷ [])
         text.old result text.new }
 {
-    write_vector(Kind::Equation, 1, r, n, p, y, text)
+    let h = Header {
+        kind: Kind::Equation,
+        r,
+        n,
+        p,
+    };
+    write_vector(h, 1, y, text)
 }
 
 // The result sheet of a basis, Y and Z of r rows and columns with n terms each.
@@ -269,5 +273,11 @@ pub fn write_basis(
     let q = p as u32;
     refusal::check_buffer(q, 1, y, count)?;
     refusal::check_buffer(q, 2, z, count)?;
-    Ok(put_basis(text, r, n, p, y, z))
+    let h = Header {
+        kind: Kind::Basis,
+        r,
+        n,
+        p,
+    };
+    Ok(put_basis(text, h, y, z))
 }

@@ -36,7 +36,7 @@ use Rattle.refusal.specs.Checked.{Judged}
 use Rattle.text.specs.Lines.{Form, Begins}
 use Rattle.text.proofs.Lines.{begins_as}
 use Rattle.cursor.specs.declared.Cursor.{Cursor}
-use Rattle.header.specs.declared.Header.{Header}
+use Rattle.job.specs.declared.Header.{Header}
 use Rattle.header.specs.Header.{header_form}
 use Rattle.sheet.specs.Sheet.{Keeps}
 use Rattle.sheet.specs.Rules.{room_rules, open_rules}

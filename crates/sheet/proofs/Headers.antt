@@ -24,7 +24,7 @@ use Rattle.job.specs.declared.Kind.{Kind}
 use Rattle.job.specs.declared.Kind.TheVariants.{System, Basis, Equation}
 use Rattle.text.specs.Lines.{Form, lines, Begins}
 use Rattle.text.proofs.Lines.{begins_as}
-use Rattle.header.specs.declared.Header.{Header}
+use Rattle.job.specs.declared.Header.{Header}
 use Rattle.header.specs.Header.{header, word_of, header_form}
 use Rattle.header.proofs.Headers.{lead_same}
 use Rattle.sheet.specs.Sheet.{Keeps}

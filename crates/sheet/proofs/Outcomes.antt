@@ -13,7 +13,7 @@ use Rattle.job.proofs.Accepted.{Limits, limits_of, small_of}
 use Rattle.text.specs.Lines.{Form}
 use Rattle.cursor.specs.declared.Cursor.{Cursor}
 use Rattle.lines.specs.Steps.{form_of}
-use Rattle.header.specs.declared.Header.{Header}
+use Rattle.job.specs.declared.Header.{Header}
 use Rattle.body.specs.declared.Lengths.{Lengths}
 use Rattle.header.specs.Header.{word_of, header_form}
 use Rattle.sheet.specs.Sheet.{Sheet}

@@ -41,7 +41,7 @@ use Rattle.text.specs.Class.{residue}
 use Rattle.text.specs.Lines.{Form, total}
 use Rattle.text.proofs.Digits.{below_or}
 use Rattle.text.proofs.Lines.{Agree, agree_before, agree_behind, begins_split, begins_same, begins_as}
-use Rattle.header.specs.declared.Header.{Header}
+use Rattle.job.specs.declared.Header.{Header}
 use Rattle.header.specs.Header.{header}
 use Rattle.sheet.specs.Sheet.{Sheet, Keeps, FirstLine}
 use Rattle.sheet.specs.JobSheet.{job_forms, job_lengths}

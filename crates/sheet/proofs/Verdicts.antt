@@ -36,7 +36,7 @@ use Rattle.text.proofs.Lines.{begins_append, begins_split, begins_rest, begins_s
 use Rattle.cursor.specs.declared.Cursor.{Cursor}
 use Rattle.job.specs.declared.Refusal.TheVariants.{Form as FormRefusal}
 use Rattle.lines.specs.Steps.{nth, Passed, Breaks}
-use Rattle.header.specs.declared.Header.{Header}
+use Rattle.job.specs.declared.Header.{Header}
 use Rattle.header.specs.Header.{header_form}
 use Rattle.sheet.specs.Sheet.{Sheet, Keeps}
 use Rattle.sheet.specs.Rules.{line_rules}

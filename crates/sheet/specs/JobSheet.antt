@@ -9,7 +9,7 @@ use Rattle.job.specs.Job.{carried}
 use Rattle.text.specs.Decimal.{digits, digits_up_to}
 use Rattle.text.specs.Lines.{Form, items, lines}
 use Rattle.lines.specs.Forms.{row_forms, matrix_forms}
-use Rattle.header.specs.declared.Header.{Header}
+use Rattle.job.specs.declared.Header.{Header}
 use Rattle.header.specs.Header.{header, word_of, header_form}
 use Rattle.body.specs.JobLines.{signed, job_lines, read_lengths}
 

@@ -28,7 +28,7 @@ use Rattle.job.specs.Refusal.{done, refused, Says, refusal_verdict, Answer, verd
 use Rattle.text.specs.Lines.{Form}
 use Rattle.cursor.specs.declared.Cursor.{Cursor}
 use Rattle.lines.specs.Steps.{nth, Passed}
-use Rattle.header.specs.declared.Header.{Header}
+use Rattle.job.specs.declared.Header.{Header}
 use Rattle.header.specs.Header.{header_form}
 use Rattle.header.specs.Opened.{Opens}
 use Rattle.body.specs.declared.Lengths.{Lengths}

@@ -4,7 +4,7 @@ use Rattle.std.specs.Prelude.{◌≡◌, List, ℕ, ℤ, Result, Ok}
 use Rattle.job.specs.declared.Refusal.{Refusal}
 use Rattle.job.specs.Refusal.{done, refused, Says, verdict_of}
 use Rattle.text.specs.Lines.{Form}
-use Rattle.header.specs.declared.Header.{Header}
+use Rattle.job.specs.declared.Header.{Header}
 use Rattle.sheet.specs.Sheet.{Sheet, FirstLine}
 use Rattle.sheet.specs.JobSheet.{job_forms, job_lengths}
 use Rattle.sheet.specs.Rules.{sheet_rules}

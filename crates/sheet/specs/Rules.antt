@@ -8,7 +8,7 @@ use Rattle.job.specs.Refusal.{Rule, rule}
 use Rattle.job.specs.Job.{words, bytes}
 use Rattle.job.specs.Rules.{limit_rules, size_rules, length_rules}
 use Rattle.text.specs.Lines.{Form}
-use Rattle.header.specs.declared.Header.{Header}
+use Rattle.job.specs.declared.Header.{Header}
 use Rattle.sheet.specs.Sheet.{Sheet, Keeps}
 
 -- 9, at a line

@@ -3,7 +3,7 @@
 -- Assumes nothing.
 use Rattle.std.specs.Prelude.{◌≡◌, List, [], ℕ, ℤ, take}
 use Rattle.text.specs.Lines.{Form, Begins}
-use Rattle.header.specs.declared.Header.{Header}
+use Rattle.job.specs.declared.Header.{Header}
 use Rattle.header.specs.Header.{TenDigits}
 
 -- the text is the sheet with the header h and the numbers z

@@ -21,8 +21,7 @@ ghost use Rattle.sheet.specs.Parts.{
 
 use body::Lengths;
 use cursor::Cursor;
-use header::Header;
-use job::{Kind, Refusal};
+use job::{Header, Kind, Refusal};
 use lines::Numbers;
 
 // Line 1 of a sheet of one of the three kinds, each of which has its own first fields.

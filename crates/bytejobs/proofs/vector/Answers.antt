@@ -11,7 +11,7 @@ use Rattle.bytejobs.proofs.vector.Goals.{Else-not-fits}
 
 pub returns-then-not-fits : goal.returns-then-not-fits
 returns-then-not-fits c =
-    let kind = c.kind_of-kind.ensures in
+    let kind = c.kind_of.ensures in
     let unfit = c.fits.ensures.no c.if-not-fits.true in
     outcome_unfit (rw kind at unfit) (rw kind at c.check_bytes.ensures)
 
@@ -22,7 +22,7 @@ fitting : (c : Else-not-fits)
     (length s.g.one.now ∷ length s.g.two.now ∷ length s.g.three.now ∷ length s.four.now
     ∷ length s.five.now ∷ [])
 fitting c =
-    rw c.kind_of-kind.ensures at (c.fits.ensures.yes c.if-not-fits.false)
+    rw c.kind_of.ensures at (c.fits.ensures.yes c.if-not-fits.false)
 
 -- its third buffer has at most eight words
 rows_within : (c : Else-not-fits) → length c.args.g.three.now / 4 ≤ 8

@@ -39,7 +39,7 @@ abbrev job : (g : given.Over) → After-CELLS g → Job
 job g c =
     let a = c.args in
     let seen = g.C.Cell.seen in
-    job_of a.kind a.r a.n a.p
+    job_of a.h.kind a.h.r a.h.n a.h.p
     (buffers (seen a.one.now) (seen a.two.now) (seen a.three.now) (seen a.four.now) (seen a.five.now))
 
 -- what is said of the lengths that it has

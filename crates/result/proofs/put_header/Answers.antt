@@ -8,7 +8,7 @@ use Rattle.result.proofs.put_header.Goals as goal
 pub put_three-requires : goal.put_three-requires
 put_three-requires c =
     let put = c.put_lead-a.ensures in
-    omega (arith, c.requires, put.end, put.long, lead_room c.args.kind)
+    omega (arith, c.requires, put.end, put.long, lead_room c.args.h.kind)
 
 pub returns : goal.returns
 returns c =

@@ -1,7 +1,7 @@
 -- `result::write_basis` meets its contract: each check speaks where those before it are silent, and where all are the
 -- sheet is put.
 -- Assumes nothing.
-use Rattle.std.proofs.Common.{[], ◌∷◌, ◌*◌, ◌≤◌, Ok, arith}
+use Rattle.std.proofs.Common.{refl, [], ◌∷◌, ◌*◌, ◌≤◌, Ok, arith}
 use Rattle.std.proofs.lemmas.Result.{err_from_is_err_and}
 use Rattle.job.specs.declared.Kind.TheVariants.{Basis}
 use Rattle.refusal.specs.Checked.{Judged}
@@ -107,8 +107,11 @@ put_basis-requires c =
     let first = basis_first a.r a.n a.p a.y.now a.z.now a.text.now known in
     let second = basis_second a.r a.n a.p a.y.now a.z.now a.text.now known in
     let whole = basis_whole a.r a.n a.p a.y.now a.z.now a.text.now known in
-    basis_ready a.r a.n a.p c.in_ok-check_small.ensures.says first second whole c.in_ok-check_buffer.ensures.says
-    c.in_ok-check_buffer-2.ensures.says
+    (
+      refl,
+      basis_ready a.r a.n a.p c.in_ok-check_small.ensures.says first second whole c.in_ok-check_buffer.ensures.says
+      c.in_ok-check_buffer-2.ensures.says,
+    )
 
 pub returns : goal.returns
 returns c =

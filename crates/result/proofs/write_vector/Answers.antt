@@ -5,7 +5,6 @@ use Rattle.std.proofs.Common.{[], ◌∷◌, ◌*◌, ◌≤◌, Ok, arith}
 use Rattle.std.proofs.lemmas.Result.{err_from_is_err_and}
 use Rattle.refusal.specs.Checked.{Judged}
 use Rattle.refusal.proofs.Products.{bounded_of}
-use Rattle.header.specs.Header.{header}
 use Rattle.result.proofs.Checks.{
   exact,
   small_refuses,
@@ -26,13 +25,13 @@ returns-in_err-check_small c =
     let p = err_from_is_err_and c.from_residual.result c.from_residual.ensures.1 in
     rw (p.1, p.2) (small_refuses _ _ _ c.in_err-check_small.ensures)
 
-few : (c : In_ok-check_small) → (c.args.rows ≤ 8) × (c.args.rows * c.args.n ≤ 1024)
+few : (c : In_ok-check_small) → (c.args.rows ≤ 8) × (c.args.rows * c.args.h.n ≤ 1024)
 few c =
     let a = c.args in
-    rows_few a.r a.n a.p c.in_ok-check_small.ensures.says a.kind a.rows c.requires
+    rows_few a.h.r a.h.n a.h.p c.in_ok-check_small.ensures.says a.h.kind a.rows c.requires
 
 pub overflow_mul-count : goal.overflow_mul-count
-overflow_mul-count c = omega (arith, few c)
+overflow_mul-count c = omega (arith, few (goal.at.overflow_mul-count c).In_ok-check_small)
 
 pub check_lengths-requires : goal.check_lengths-requires
 check_lengths-requires c =
@@ -44,29 +43,29 @@ returns-in_err-check_lengths c =
     let a = c.args in
     let back = c.from_residual-in_err-check_lengths in
     let p = err_from_is_err_and back.result back.ensures.1 in
-    let said = vector_exact a.kind a.r a.n a.p a.y.now a.text.now a.rows c.requires c.in_err-check_lengths.ensures in
+    let said = vector_exact a.h.kind a.h.r a.h.n a.h.p a.y.now a.text.now a.rows c.requires c.in_err-check_lengths.ensures in
     rw (p.1, p.2) (exact_refuses _ _ _ c.in_ok-check_small.ensures said)
 
 -- 5 is silent
 long
     : (c : In_ok-check_lengths)
     → let a = c.args in
-    Judged (exact (header a.kind a.r a.n a.p) (a.y.now ∷ []) a.text.now) (Ok tt)
+    Judged (exact a.h (a.y.now ∷ []) a.text.now) (Ok tt)
 long c =
     let a = c.args in
-    vector_exact a.kind a.r a.n a.p a.y.now a.text.now a.rows c.requires c.in_ok-check_lengths.ensures
+    vector_exact a.h.kind a.h.r a.h.n a.h.p a.y.now a.text.now a.rows c.requires c.in_ok-check_lengths.ensures
 
-pub overflow_cast-p : goal.overflow_cast-p
-overflow_cast-p c =
+pub overflow_cast-h : goal.overflow_cast-h
+overflow_cast-h c =
     let a = c.args in
-    omega (arith, (limits a.r a.n a.p c.in_ok-check_small.ensures.says).half)
+    omega (arith, (limits a.h.r a.h.n a.h.p c.in_ok-check_small.ensures.says).half)
 
 pub check_buffer-requires : goal.check_buffer-requires
 check_buffer-requires c =
     let a = c.args in
     let at = goal.at.check_buffer-requires c in
     let small = few at.In_ok-check_small in
-    let same = vector_length a.kind a.r a.n a.p a.y.now a.text.now a.rows c.requires (long at.In_ok-check_lengths) in
+    let same = vector_length a.h.kind a.h.r a.h.n a.h.p a.y.now a.text.now a.rows c.requires (long at.In_ok-check_lengths) in
     record { few = omega arith; within = omega arith }
 
 pub returns-in_err-check_buffer : goal.returns-in_err-check_buffer
@@ -75,21 +74,21 @@ returns-in_err-check_buffer c =
     let back = c.from_residual-in_err-check_buffer in
     let p = err_from_is_err_and back.result back.ensures.1 in
     let known = long (goal.at.returns-in_err-check_buffer c).In_ok-check_lengths in
-    let said = vector_below a.kind a.r a.n a.p a.y.now a.text.now a.rows c.requires c.in_err-check_buffer.ensures in
+    let said = vector_below a.h.kind a.h.r a.h.n a.h.p a.y.now a.text.now a.rows c.requires c.in_err-check_buffer.ensures in
     rw (p.1, p.2) (below_refuses _ _ _ c.in_ok-check_small.ensures known said)
 
 pub put_vector-requires : goal.put_vector-requires
 put_vector-requires c =
     let a = c.args in
     let known = long (goal.at.put_vector-requires c).In_ok-check_lengths in
-    let same = vector_length a.kind a.r a.n a.p a.y.now a.text.now a.rows c.requires known in
-    let whole = vector_whole a.kind a.r a.n a.p a.y.now a.text.now a.rows c.requires known in
-    vector_ready a.r a.n a.p c.in_ok-check_small.ensures.says a.kind a.rows c.requires same whole
+    let same = vector_length a.h.kind a.h.r a.h.n a.h.p a.y.now a.text.now a.rows c.requires known in
+    let whole = vector_whole a.h.kind a.h.r a.h.n a.h.p a.y.now a.text.now a.rows c.requires known in
+    vector_ready a.h.r a.h.n a.h.p c.in_ok-check_small.ensures.says a.h.kind a.rows c.requires same whole
     c.in_ok-check_buffer.ensures.says
 
 pub returns : goal.returns
 returns c =
     let a = c.args in
     let known = long (goal.at.returns c).In_ok-check_lengths in
-    let said = vector_below a.kind a.r a.n a.p a.y.now a.text.now a.rows c.requires c.in_ok-check_buffer.ensures in
+    let said = vector_below a.h.kind a.h.r a.h.n a.h.p a.y.now a.text.now a.rows c.requires c.in_ok-check_buffer.ensures in
     sheet_written _ _ _ c.in_ok-check_small.ensures known said c.put_vector.ensures
