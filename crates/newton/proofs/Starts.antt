@@ -1,14 +1,15 @@
 -- Y0 and its inverse, in words of their own.
 -- Assumes nothing.
-use Rattle.std.proofs.Common.{zero-add, ◌≡◌, refl, sym, ap, ap₂, ◌∙◌, Bool, List, ℕ, ◌+◌, ◌*◌, ◌%◌, ◌<◌, arith}
+use Rattle.std.proofs.Common.{zero-add, ◌≡◌, refl, sym, ap, ap₂, ◌∙◌, List, ℕ, ◌+◌, ◌*◌, ◌%◌, ◌<◌, arith}
 use Rattle.std.proofs.Common.{get_or}
+use Rattle.std.proofs.lemmas.Result.{on_ok_weaker, on_err_weaker}
 use native.Mathlib.Decide.{dec_lt}
 use Rattle.algebra.specs.Meaning.{LeftInverse}
 use Rattle.algebra.proofs.Numbers.{sum_of_cong}
 use Rattle.room.specs.Room.{words_from, Put}
 use Rattle.matrix.specs.Layout.{Below}
 use Rattle.matrix.proofs.Written.{entry-below, put_below}
-use Rattle.eliminate.specs.Square.{square_at, Inverted}
+use Rattle.eliminate.specs.Square.{square_at, Answer, Inverted}
 use Rattle.job.specs.Job.{word_at, series_at, matrix_at}
 use Rattle.newton.specs.Basis.{start_of, Startable, StartInverted}
 
@@ -39,16 +40,23 @@ module _ {p r : ℕ} {y0 s : List ℕ} (given : Startable p r y0 s) where
         ∙ sym (copied_word (i * r + j) (entry-below a b))
         ∙ ap (λ x. get_or t x 0) (omega arith)
 
-    pub start_inverted : {z : List ℕ} {b : Bool} → Inverted p r t z b → StartInverted p r y0 z b
-    start_inverted {z} h = record {
+    pub start_inverted : {z : List ℕ} {answer : Answer} → Inverted p r t z answer → StartInverted p r y0 z answer
+    start_inverted {z} {answer} h = record {
       below = λ k. elim (dec_lt k (2 * (r * r))) [
         | yes l ↦ h.below k l
         | no l ↦ rw (h.kept k (omega arith)) (copied_below k)
       ];
-      left = λ e. left_moved (square_at r z (r * r)) (start_of r y0) (λ _ _ _ _. refl) entry-same (h.left e);
-      right = λ e. left_moved (start_of r y0) (square_at r z (r * r)) entry-same (λ _ _ _ _. refl) (h.right e);
-      none = λ e. record {
-        none = λ w l. (h.none e).none w
-            (left_moved w (square_at r t 0) (λ _ _ _ _. refl) (λ i j a b. sym (entry-same i j a b)) l);
-      };
+      left =
+          on_ok_weaker answer
+          (left_moved (square_at r z (r * r)) (start_of r y0) (λ _ _ _ _. refl) entry-same) h.left;
+      right =
+          on_ok_weaker answer
+          (left_moved (start_of r y0) (square_at r z (r * r)) entry-same (λ _ _ _ _. refl)) h.right;
+      none =
+          on_err_weaker answer
+          (λ no. record {
+            none = λ w l. no.none w
+                (left_moved w (square_at r t 0) (λ _ _ _ _. refl) (λ i j a b. sym (entry-same i j a b)) l);
+          })
+          h.none;
     }

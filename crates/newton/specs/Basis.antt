@@ -1,6 +1,6 @@
 -- What the functions of the basis job take and give.
 -- Assumes nothing.
-use Rattle.std.specs.Prelude.{◌≡◌, Bool, true, false, List, ℕ, ◌+◌, ◌*◌, ◌^◌, ◌<◌, ◌≤◌, length, get_or, replicate}
+use Rattle.std.specs.Prelude.{◌≡◌, List, ℕ, ◌+◌, ◌*◌, ◌^◌, ◌<◌, ◌≤◌, length, get_or, replicate, OnOk, OnErr}
 use Rattle.algebra.specs.Numbers.{Prime}
 use Rattle.algebra.specs.Meaning.{LeftInverse, NoInverse, BasisSeries}
 use Rattle.residue.specs.declared.Modulus.{Modulus}
@@ -8,7 +8,7 @@ use Rattle.residue.specs.Sums.{IsModulus}
 use Rattle.room.specs.Room.{Zeros}
 use Rattle.matrix.specs.Layout.{Below, Written}
 use Rattle.matrix.specs.Product.{first_terms}
-use Rattle.eliminate.specs.Square.{square_at}
+use Rattle.eliminate.specs.Square.{square_at, Answer}
 use Rattle.job.specs.Job.{words, matrix_at}
 use Rattle.ladder.specs.Layout.{solution_of, inverse_of}
 
@@ -44,12 +44,12 @@ pub record Startable (p r : ℕ) (y0 s : List ℕ) : Type 0 where
   pub start : Below p y0
   pub rest : Below p s
 
--- b says whether Y0 has an inverse; if so, it stands in the words behind Y0
-pub record StartInverted (p r : ℕ) (y0 s : List ℕ) (b : Bool) : Type 0 where
+-- the answer is done if Y0 has an inverse, which then stands in the words behind Y0
+pub record StartInverted (p r : ℕ) (y0 s : List ℕ) (answer : Answer) : Type 0 where
   pub below : Below p s
-  pub left : b ≡ true → LeftInverse p r (square_at r s (r * r)) (start_of r y0)
-  pub right : b ≡ true → LeftInverse p r (start_of r y0) (square_at r s (r * r))
-  pub none : b ≡ false → NoInverse p r (start_of r y0)
+  pub left : OnOk answer (LeftInverse p r (square_at r s (r * r)) (start_of r y0))
+  pub right : OnOk answer (LeftInverse p r (start_of r y0) (square_at r s (r * r)))
+  pub none : OnErr answer (NoInverse p r (start_of r y0))
 
 -- an accepted job with its modulus and the inverse of Y0
 pub record Ready (q : Modulus) (r n : ℕ) (a y0 s w : List ℕ) : Type 0 where

@@ -9,6 +9,7 @@ ghost use Rattle.refusal.specs.Checked.{job_of};
 ghost use Rattle.newton.specs.Basis.{Spreadable, Spread, units, Startable, StartInverted, Ready, Found, Ran};
 ghost use Rattle.newton.specs.System.{Placeable, Placed, SystemReady, SystemFound, SystemRan};
 
+use eliminate::Singular;
 use job::{Header, Kind, Refusal};
 use residue::Shape;
 
@@ -22,8 +23,8 @@ pub fn spread(entries: usize, n: usize, src: &[u32], from: usize, at: usize, w: 
     }
 }
 
-// Puts Y0 into s and its inverse behind it, if there is one. The answer says whether there is.
-fn invert_start(p: u32, r: usize, y0: &[u32], s: &mut [u32]) -> bool
+// Puts Y0 into s and its inverse behind it, if there is one.
+fn invert_start(p: u32, r: usize, y0: &[u32], s: &mut [u32]) -> Result<(), Singular>
     requires { Startable p r y0.now s.old }
     ensures { StartInverted p r y0.now s.new result }
 {
@@ -94,9 +95,7 @@ pub fn basis(
     };
     refusal::check_words(h, a, y0, y, z, work)?;
     let mut s = [0u32; 128];
-    if !invert_start(p as u32, r as usize, y0, &mut s) {
-        return Err(Refusal::Singular);
-    }
+    invert_start(p as u32, r as usize, y0, &mut s).map_err(|_| Refusal::Singular)?;
     let q = residue::make_modulus(p as u32);
     let g = Shape {
         q,

@@ -1,18 +1,21 @@
 -- `newton::basis` meets its contract: what the checks refuse is refused, a Y0 with no inverse too, and any other job
 -- is run.
 -- Assumes nothing.
-use Rattle.std.proofs.Common.{◌∙◌, ℕ, arith}
+use Rattle.std.proofs.Common.{◌≡◌, ◌∙◌, ℕ, Ok, arith, rules}
 use lib.ListN.{length-replicate}
 use Rattle.std.proofs.lemmas.Result.{err_from_is_err_and}
 use Rattle.job.specs.Job.{Job, buffers, words}
 use Rattle.job.specs.declared.Kind.TheVariants.{Basis}
+use Rattle.job.specs.declared.Refusal.TheVariants.{Singular}
 use Rattle.job.proofs.Says.{refusal_other}
 use Rattle.job.proofs.Accepted.{Accepted, accepted}
 use Rattle.job.proofs.Outcomes.{checks_refused}
 use Rattle.refusal.specs.Checked.{job_of}
-use Rattle.newton.proofs.Outcomes.{modulus_small, startable, basis_singular, ready, basis_done}
+use Rattle.newton.specs.Basis.{StartInverted}
+use Rattle.newton.proofs.Outcomes.{told_ok, told_err, modulus_small, startable, basis_singular, ready}
+use Rattle.newton.proofs.Outcomes.{basis_done}
 use Rattle.newton.proofs.basis.Goals as goal
-use Rattle.newton.proofs.basis.Goals.{In_ok-check_words}
+use Rattle.newton.proofs.basis.Goals.{In_ok-check_words, In_ok-map_err}
 
 pub returns-in_err-check_words : goal.returns-in_err-check_words
 returns-in_err-check_words c =
@@ -37,11 +40,20 @@ pub invert_start-requires : goal.invert_start-requires
 unfolding jobAt
 invert_start-requires c = startable (admitted (goal.at.invert_start-requires c).In_ok-check_words)
 
-pub returns-then-not-invert_start : goal.returns-then-not-invert_start
+pub returns-in_err-map_err : goal.returns-in_err-map_err
 unfolding jobAt
-returns-then-not-invert_start c =
-    basis_singular (admitted (goal.at.returns-then-not-invert_start c).In_ok-check_words) c.invert_start.ensures
-    c.if-not-invert_start.true
+returns-in_err-map_err c =
+    let p = err_from_is_err_and c.from_residual-in_err-map_err.result c.from_residual-in_err-map_err.ensures.1 in
+    let q = told_err _ c.invert_start.result c.map_err.ensures.cases c.in_err-map_err.was in
+    let singular : c.in_err-map_err.field-0.0 ≡ Singular = search (rules, q.2) in
+    rw (p.1, p.2, singular)
+    (basis_singular (admitted (goal.at.returns-in_err-map_err c).In_ok-check_words) (rw q.1 at c.invert_start.ensures))
+
+-- Y0 has an inverse, where the elimination is not refused
+inverted : (c : In_ok-map_err) → let s = c.args in
+    StartInverted s.p s.r s.y0.now c.invert_start.new.s (Ok tt)
+inverted c =
+    rw (told_ok _ c.invert_start.result c.map_err.ensures.cases c.in_ok-map_err.was) at c.invert_start.ensures
 
 pub overflow_cast-p-2 : goal.overflow_cast-p-2
 unfolding jobAt
@@ -56,13 +68,13 @@ make_modulus-q-requires c =
 pub run_basis-requires : goal.run_basis-requires
 unfolding jobAt
 run_basis-requires c =
-    ready (admitted (goal.at.run_basis-requires c).In_ok-check_words) c.invert_start.ensures c.if-not-invert_start.false
+    ready (admitted (goal.at.run_basis-requires c).In_ok-check_words) (inverted (goal.at.run_basis-requires c).In_ok-map_err)
     c.make_modulus-q.ensures (c.invert_start.auto.s ∙ length-replicate {A = ℕ} 128 0)
 
 pub returns : goal.returns
 unfolding jobAt
 returns c =
-    basis_done (admitted (goal.at.returns c).In_ok-check_words) c.invert_start.ensures c.if-not-invert_start.false
+    basis_done (admitted (goal.at.returns c).In_ok-check_words) (inverted (goal.at.returns c).In_ok-map_err)
     c.make_modulus-q.ensures c.run_basis.auto.y
     c.run_basis.auto.z c.run_basis.auto.work
     c.run_basis.ensures
