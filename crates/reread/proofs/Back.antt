@@ -2,12 +2,38 @@
 -- words (`taken_back`). And the reader takes nothing else: a text that it takes is what the writer writes, of the words
 -- that it read (`written_back`).
 -- Assumes nothing.
-use mathlib.Core.Path.{◌≡◌, sym, ap, subst, ◌∙◌}
-use mathlib.Core.List.{List, [], ◌∷◌, ◌++◌, map, flatten, append-nil}
-use Prim.Native.Nat.{ℕ, ◌+◌, ◌-◌, ◌<◌, ◌≤◌}
-use native.Mathlib.Omega.{arith}
-use lib.ListN.{length, get_or, take, drop, length-append, length-drop, length-take, length-map}
-use Rattle.job.specs.Refusal.{done, Rule, Says}
+use Rattle.std.proofs.Common.{
+  ◌≡◌,
+  sym,
+  ap,
+  subst,
+  ◌∙◌,
+  List,
+  [],
+  ◌∷◌,
+  ◌++◌,
+  map,
+  append-nil,
+  ℕ,
+  ◌+◌,
+  ◌-◌,
+  ◌<◌,
+  ◌≤◌,
+  arith,
+  length,
+  get_or,
+  take,
+  drop,
+  length-append,
+  length-drop,
+  length-take,
+  Result,
+  Ok,
+}
+use mathlib.Core.List.{flatten}
+use lib.ListN.{length-map}
+use Rattle.job.specs.declared.Refusal.{Refusal}
+use Rattle.job.specs.Refusal.{done, Rule, Says, verdict_of}
 use Rattle.job.specs.Job.{words, bytes}
 use Rattle.job.specs.Rules.{limit_rules, size_rules, length_rules, read_rules}
 use Rattle.job.proofs.Says.{refused_not_done, says_head, says_tail, says_split, says-append_done}
@@ -16,16 +42,12 @@ use Rattle.text.specs.Put.{Put}
 use Rattle.text.proofs.Lines.{lines_ext}
 use Rattle.text.proofs.Classes.{balanced_class}
 use Rattle.header.specs.declared.Header.{Header}
-use Rattle.sheet.specs.declared.Reading.{Reading}
-use Rattle.sheet.specs.declared.Reading.TheVariants as reading
-use Rattle.sheet.specs.Rules.{read_verdict, room_rules, open_rules, line_rules, sheet_rules}
+use Rattle.sheet.specs.Rules.{room_rules, open_rules, line_rules, sheet_rules}
 use Rattle.sheet.specs.Read.{Taken}
 use Rattle.sheet.proofs.Outcomes.{limited_limits, limited-small}
 use Rattle.sheet.proofs.Unique.{sheet_outcome, outcome_silent}
-use Rattle.result.specs.declared.Written.{Written}
-use Rattle.result.specs.declared.Written.TheVariants as written
 use Rattle.result.specs.ResultSheet.{result_forms, result_lengths, result_numbers, result_text}
-use Rattle.result.specs.Write.{written_verdict, write_rules, WriteOutcome}
+use Rattle.result.specs.Write.{write_rules, WriteOutcome}
 use Rattle.result.proofs.IsSheet.{written_limits, written_lengths, written_text, written_below, written_sheet}
 use Rattle.reread.specs.Read.{ResultOutcome}
 use Rattle.reread.specs.Parts.{Roomy}
@@ -42,11 +64,11 @@ use Rattle.reread.proofs.Words.{
   printed_again,
 }
 
-module _ {h : Header} {lent : List (List ℕ)} {text after : List ℕ} {w : Written} {l : ℕ}
-    (o : WriteOutcome h lent text w after) (d : w ≡ written.Done l) (whole : Whole h lent) where
+module _ {h : Header} {lent : List (List ℕ)} {text after : List ℕ} {w : Result ℕ Refusal} {l : ℕ}
+    (o : WriteOutcome h lent text w after) (d : w ≡ Ok l) (whole : Whole h lent) where
   -- the reader takes what is written, and leaves the words in its rooms
   taken : (one two : List ℕ) → Roomy one two
-      → ResultOutcome (take l after) (one ∷ two ∷ []) (reading.Done h) (laid_in lent (one ∷ two ∷ []))
+      → ResultOutcome (take l after) (one ∷ two ∷ []) (Ok h) (laid_in lent (one ∷ two ∷ []))
   taken one two rooms =
       let all = whole.count in
       let z = result_numbers h.p lent in
@@ -66,9 +88,9 @@ module _ {h : Header} {lent : List (List ℕ)} {text after : List ℕ} {w : Writ
       sheet_outcome result_forms result_header result_lengths result_total (take l after) (one ∷ two ∷ [])
       (written_sheet o d all) short (rooms_done one two rooms.first rooms.second) limits filled
 
-  pub taken_back : {one two : List ℕ} → Roomy one two → {x : Reading} {rooms : List (List ℕ)}
+  pub taken_back : {one two : List ℕ} → Roomy one two → {x : Result Header Refusal} {rooms : List (List ℕ)}
       → ResultOutcome (take l after) (one ∷ two ∷ []) x rooms
-      → (x ≡ reading.Done h) × (rooms ≡ laid_in lent (one ∷ two ∷ []))
+      → (x ≡ Ok h) × (rooms ≡ laid_in lent (one ∷ two ∷ []))
   taken_back {one} {two} room r = result_outcome_unique r (taken one two room)
 
 -- a text at the beginning of a longer buffer
@@ -83,8 +105,8 @@ put_first s text l =
     }
 
 -- a text that the reader takes
-module _ {s one two : List ℕ} {x : Reading} {after : List (List ℕ)} (o : ResultOutcome s (one ∷ two ∷ []) x after)
-    (d : read_verdict x ≡ done) where
+module _ {s one two : List ℕ} {x : Result Header Refusal} {after : List (List ℕ)}
+    (o : ResultOutcome s (one ∷ two ∷ []) x after) (d : verdict_of x ≡ done) where
   abbrev rooms : List (List ℕ)
   rooms = one ∷ two ∷ []
 
@@ -154,12 +176,11 @@ module _ {s one two : List ℕ} {x : Reading} {after : List (List ℕ)} (o : Res
         says-append_done (limited h ++ lengths) (read_rules words h.p 1 (length lent) (result_lengths h) lent) done
         first (reads_silent h.p found.numbers positive 1 0 (result_lengths h))
 
-    written_again : WriteOutcome found.header lent text (written.Done (length s)) (s ++ drop (length s) text)
-    unfolding written_verdict
+    written_again : WriteOutcome found.header lent text (Ok (length s)) (s ++ drop (length s) text)
     written_again = record {
       verdict = no_refusal;
       kept = λ a b c q. absurd (refused_not_done a b c (sym q));
-      brought = λ q. ap (λ (t : List ℕ). written.Done (length t)) (sym same_text);
+      brought = λ q. ap (λ (t : List ℕ). Ok (length t)) (sym same_text);
       written = λ l q.
           let k : length s ≡ l = cc in
           let all = s ++ drop (length s) text in
@@ -176,12 +197,11 @@ module _ {s one two : List ℕ} {x : Reading} {after : List (List ℕ)} (o : Res
     written = written_again;
   }
 
-pub written_back : {s one two : List ℕ} {x : Reading} {after : List (List ℕ)}
-    → ResultOutcome s (one ∷ two ∷ []) x after → {h : Header} → x ≡ reading.Done h
+pub written_back : {s one two : List ℕ} {x : Result Header Refusal} {after : List (List ℕ)}
+    → ResultOutcome s (one ∷ two ∷ []) x after → {h : Header} → x ≡ Ok h
     → WrittenBack s h (one ∷ two ∷ []) after
-unfolding read_verdict
 written_back {s} {one} {two} {x} {after} o {h} e =
-    let d : read_verdict x ≡ done = ap read_verdict e in
+    let d : verdict_of x ≡ done = ap (verdict_of {A = Header}) e in
     let brought = (o.taken d).brought in
     let same : (o.taken d).header ≡ h = cc in
     subst (λ (g : Header). WrittenBack s g (one ∷ two ∷ []) after) same (found_written o d)

@@ -1,12 +1,34 @@
 -- Buffers laid into rooms: rooms filled by numbers whose residues are the buffers' words.
 -- Assumes nothing.
-use mathlib.Core.Path.{◌≡◌, refl, sym, ap, ◌∙◌}
-use mathlib.Core.List.{List, [], ◌∷◌, ◌++◌, map, flatten}
-use Prim.Native.Nat.{ℕ, ◌+◌, ◌-◌, ◌*◌, ◌<◌, ◌≤◌}
-use native.Mathlib.Omega.{arith}
-use lib.IntN.{ℤ}
-use lib.ListN.{length, get_or, drop, length-append, length-drop, get_or-append}
-use lib.Seq.{get_or-append-add, get_or-drop}
+use Rattle.std.proofs.Common.{
+  ◌≡◌,
+  refl,
+  sym,
+  ap,
+  ◌∙◌,
+  List,
+  [],
+  ◌∷◌,
+  ◌++◌,
+  map,
+  ℕ,
+  ◌+◌,
+  ◌-◌,
+  ◌*◌,
+  ◌<◌,
+  ◌≤◌,
+  arith,
+  ℤ,
+  length,
+  get_or,
+  drop,
+  length-append,
+  length-drop,
+  get_or-append-add,
+  get_or-drop,
+}
+use mathlib.Core.List.{flatten}
+use lib.ListN.{get_or-append}
 use Rattle.job.specs.declared.Kind.{Kind}
 use Rattle.job.specs.declared.Kind.TheVariants.{System, Basis, Equation}
 use Rattle.text.specs.Class.{residue}

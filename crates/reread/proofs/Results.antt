@@ -1,17 +1,13 @@
 -- Result sheets: line 1, the numbers and how many there are, the sizes, and the two rooms.
 -- Assumes nothing.
-use mathlib.Core.Path.{◌≡◌, refl, sym, ◌∙◌}
-use mathlib.Core.List.{List, [], ◌∷◌}
-use Prim.Native.Nat.{ℕ, ◌+◌, ◌*◌, ◌≤◌}
-use native.Mathlib.Omega.{arith}
-use lib.IntN.{ℤ}
-use lib.ListN.{length}
+use Rattle.std.proofs.Common.{◌≡◌, refl, sym, ◌∙◌, List, [], ◌∷◌, ℕ, ◌+◌, ◌*◌, ◌≤◌, arith, ℤ, length}
 use Rattle.job.specs.declared.Kind.{Kind}
 use Rattle.job.specs.declared.Kind.TheVariants.{System, Basis, Equation}
-use Rattle.job.specs.declared.Answer.TheVariants.{Length}
-use Rattle.job.specs.Refusal.{done, Says, verdict_of}
+use Rattle.job.specs.Refusal.{done, Says}
+use Rattle.job.specs.Job.{words}
 use Rattle.job.specs.Rules.{length_rules}
-use Rattle.job.proofs.Says.{says_none, says_here, says_past, says_head, says_tail, refused_not_done}
+use Rattle.job.proofs.Says.{says_none, says_past}
+use Rattle.job.proofs.Accepted.{length_of_lem}
 use Rattle.text.specs.Lines.{total}
 use Rattle.text.proofs.Lines.{total-append}
 use Rattle.cursor.specs.declared.Cursor.{Cursor}
@@ -28,7 +24,6 @@ use Rattle.sheet.specs.Sheet.{Keeps}
 use Rattle.sheet.specs.Rules.{room_rules}
 use Rattle.sheet.specs.Rooms.{Filled, FilledAll}
 use Rattle.sheet.specs.Parts.{Led, Entered}
-use Rattle.sheet.proofs.Before.{room_exact}
 use Rattle.sheet.proofs.Headers.{one-header}
 use Rattle.sheet.proofs.Rooms.{filled_nothing}
 use Rattle.sheet.proofs.Outcomes.{entered_limits, entered_small}
@@ -147,29 +142,15 @@ module _ {r : ℕ} {series : Numbers} {s : List ℕ} {c : Cursor} {w : List ℤ}
   pub matrix-small : r * (r * series.count) ≤ 1024
   matrix-small = omega (arith, q.small.product)
 
--- two rooms of another length, or not
+-- two rooms that nothing refuses
 module _ (one two : List ℕ) where
-  pub room_first : (length one ≡ 2048 → ⊥) → Says (room_rules (one ∷ two ∷ [])) (verdict_of (Length 1))
-  unfolding room_rules length_rules verdict_of
-  room_first n = says_here _ _ n
+  pub rooms_done : length one ≡ 2048 → length two ≡ 2048 → Says (room_rules (one ∷ two ∷ [])) done
+  unfolding room_rules length_rules
+  rooms_done a b = says_past _ _ _ (λ q. q a) (says_past _ _ _ (λ q. q b) says_none)
 
-  module _ (a : length one ≡ 2048) where
-    pub room_second : (length two ≡ 2048 → ⊥) → Says (room_rules (one ∷ two ∷ [])) (verdict_of (Length 2))
-    unfolding room_rules length_rules verdict_of
-    room_second n = says_past _ _ _ (λ q. q a) (says_here _ _ n)
-
-    pub rooms_done : length two ≡ 2048 → Says (room_rules (one ∷ two ∷ [])) done
-    unfolding room_rules length_rules
-    rooms_done b = says_past _ _ _ (λ q. q a) (says_past _ _ _ (λ q. q b) says_none)
-
--- rooms that nothing refuses
-pub rooms_roomy : (one two : List ℕ) → Says (room_rules (one ∷ two ∷ [])) done → Roomy one two
-unfolding room_rules length_rules
-rooms_roomy one two s = record {
-  first = room_exact (length one) (says_head _ _ s);
-  second = room_exact (length two) (says_head _ _ (says_tail _ _ s));
-}
-
-pub room_refused : (b : ℕ) → ¬ (verdict_of (Length b) ≡ done)
-unfolding verdict_of
-room_refused b e = refused_not_done 5 b 0 e
+  pub rooms_roomy : Says (room_rules (one ∷ two ∷ [])) done → Roomy one two
+  unfolding room_rules
+  rooms_roomy s = record {
+    first = length_of_lem words 1 _ _ s 0 (omega arith) (omega arith);
+    second = length_of_lem words 1 _ _ s 1 (omega arith) (omega arith);
+  }

@@ -1,21 +1,18 @@
 -- The reader of result sheets: two outcomes for one text and the same rooms coincide, and a result sheet determines
 -- its kind, r, N, p and its numbers.
 -- Assumes nothing.
-use mathlib.Core.Path.{◌≡◌}
-use mathlib.Core.List.{List}
-use Prim.Native.Nat.{ℕ}
-use lib.IntN.{ℤ}
+use Rattle.std.proofs.Common.{◌≡◌, List, ℕ, ℤ, Result}
+use Rattle.job.specs.declared.Refusal.{Refusal}
 use Rattle.text.specs.Lines.{total}
 use Rattle.text.proofs.Lines.{Agree}
 use Rattle.header.specs.declared.Header.{Header}
-use Rattle.sheet.specs.declared.Reading.{Reading}
 use Rattle.sheet.specs.Sheet.{Sheet}
 use Rattle.sheet.proofs.Unique.{sheet_unique, outcome_unique}
 use Rattle.result.specs.ResultSheet.{result_forms, result_lengths}
 use Rattle.reread.specs.Read.{ResultOutcome}
 use Rattle.reread.proofs.Results.{result_header, result_total}
 
-pub result_outcome_unique : {s : List ℕ} {rooms : List (List ℕ)} {x y : Reading} {a b : List (List ℕ)}
+pub result_outcome_unique : {s : List ℕ} {rooms : List (List ℕ)} {x y : Result Header Refusal} {a b : List (List ℕ)}
     → ResultOutcome s rooms x a → ResultOutcome s rooms y b → (x ≡ y) × (a ≡ b)
 result_outcome_unique {s} {rooms} = outcome_unique result_forms result_header result_lengths result_total s rooms
 

@@ -1,8 +1,7 @@
 -- A result sheet written and taken back.
 -- Assumes nothing.
-use Rattle.std.specs.Prelude.{◌≡◌, refl, List, [], ◌∷◌, ◌++◌, ℕ, length, drop}
+use Rattle.std.specs.Prelude.{◌≡◌, refl, List, [], ◌∷◌, ◌++◌, ℕ, length, drop, Ok}
 use Rattle.header.specs.declared.Header.{Header}
-use Rattle.result.specs.declared.Written.TheVariants.{Done}
 use Rattle.result.specs.ResultSheet.{result_lengths}
 use Rattle.result.specs.Write.{WriteOutcome}
 
@@ -29,4 +28,4 @@ pub record WrittenBack (s : List ℕ) (h : Header) (rooms after : List (List ℕ
   pub whole : Whole h lent
   pub read : after ≡ laid_in lent rooms
   pub written : (text : List ℕ) → length text ≡ 65536
-      → WriteOutcome h lent text (Done (length s)) (s ++ drop (length s) text)
+      → WriteOutcome h lent text (Ok (length s)) (s ++ drop (length s) text)

@@ -1,7 +1,24 @@
 -- The checks of a writer, one behind the other: 1 to 4 and 10, then 5, and then 6 in each buffer of words. Where none
 -- speaks, the sheet is written.
 -- Assumes nothing.
-use Rattle.std.proofs.Common.{◌≡◌, refl, sym, ap, List, [], ◌∷◌, ◌++◌, ℕ, zero-add, ◌*◌, length, Ok, Err, one-mul, arith}
+use Rattle.std.proofs.Common.{
+  ◌≡◌,
+  refl,
+  sym,
+  ap,
+  List,
+  [],
+  ◌∷◌,
+  ◌++◌,
+  ℕ,
+  zero-add,
+  ◌*◌,
+  length,
+  Ok,
+  Err,
+  one-mul,
+  arith,
+}
 use Rattle.job.specs.declared.Kind.{Kind}
 use Rattle.job.specs.declared.Kind.TheVariants.{System, Basis, Equation}
 use Rattle.job.specs.declared.Refusal.{Refusal}
@@ -84,7 +101,9 @@ module _ (kind : Kind) (r n p : ℕ) (y text : List ℕ) (rows : ℕ) (order : R
   pub vector_exact
       : {a : Answer} → Compared 1 (rows * n ∷ 65536 ∷ []) (length y ∷ length text ∷ []) a
       → Judged (exact (header kind r n p) (y ∷ []) text) a
-  vector_exact compared = record { says = rw (counts kind r rows n order) (compared.says words (y ∷ text ∷ []) refl refl) }
+  vector_exact compared = record {
+    says = rw (counts kind r rows n order) (compared.says words (y ∷ text ∷ []) refl refl);
+  }
 
   pub vector_below
       : {a : Answer} → Judged (word_rules words p 1 y 0 (rows * n)) a

@@ -1,7 +1,36 @@
 -- What is written is a result sheet, with the header that was given and the numbers of the words, each in its range:
 -- so a reader of result sheets takes it.
 -- Assumes nothing.
-use Rattle.std.proofs.Common.{◌≡◌, refl, sym, ap, subst, ◌∙◌, List, [], ◌∷◌, ◌++◌, map, append-nil, ℕ, zero, suc, ◌+◌, ◌*◌, ◌<◌, arith, ℤ, pos, negsuc, length, get_or, take, take_at, Result, Ok}
+use Rattle.std.proofs.Common.{
+  ◌≡◌,
+  refl,
+  sym,
+  ap,
+  subst,
+  ◌∙◌,
+  List,
+  [],
+  ◌∷◌,
+  ◌++◌,
+  map,
+  append-nil,
+  ℕ,
+  zero,
+  suc,
+  ◌+◌,
+  ◌*◌,
+  ◌<◌,
+  arith,
+  ℤ,
+  pos,
+  negsuc,
+  length,
+  get_or,
+  take,
+  take_at,
+  Result,
+  Ok,
+}
 use mathlib.Core.List.{flatten}
 use Rattle.job.specs.declared.Kind.{Kind}
 use Rattle.job.specs.declared.Kind.TheVariants.{System, Basis, Equation}

@@ -78,7 +78,9 @@ module _ (s : List ℕ) (a b n : ℕ) (e : b ≡ a + n) (within : b ≤ length s
 
   -- as numbers to be printed they are those of the list
   pub part_same : (p : ℕ) → Same (number_at p (slice_range s a b)) 0 (number_at p s) a n
-  part_same p = record { at = λ j h. let q : 0 + j ≡ j = omega arith in ap (λ (c : ℕ). balanced c p) (rw q (part_at j h)) }
+  part_same p = record {
+    at = λ j h. let q : 0 + j ≡ j = omega arith in ap (λ (c : ℕ). balanced c p) (rw q (part_at j h));
+  }
 
   -- and below p if all of the list are
   pub part_below : {p : ℕ} → ((k : ℕ) → get_or s k 0 < p) → (k : ℕ) → get_or (slice_range s a b) k 0 < p

@@ -1,6 +1,23 @@
 -- The turns of the loops that print: what stands so far, and one piece more.
 -- Assumes nothing.
-use Rattle.std.proofs.Common.{◌≡◌, List, [], ◌∷◌, ◌++◌, ℕ, ◌+◌, ◌-◌, ◌*◌, ◌<◌, ◌≤◌, ◌^◌, arith, add-one, length, suc-mul}
+use Rattle.std.proofs.Common.{
+  ◌≡◌,
+  List,
+  [],
+  ◌∷◌,
+  ◌++◌,
+  ℕ,
+  ◌+◌,
+  ◌-◌,
+  ◌*◌,
+  ◌<◌,
+  ◌≤◌,
+  ◌^◌,
+  arith,
+  add-one,
+  length,
+  suc-mul,
+}
 use Rattle.text.specs.Decimal.{digits, spell}
 use Rattle.text.specs.Lines.{items, line, lines}
 use Rattle.text.specs.Put.{Put}
@@ -164,7 +181,8 @@ module _ {p : ℕ} {s : List ℕ} {order count : ℕ} {d₀ : List ℕ} {at : �
         let z : i * (order * count) ≡ 0 + i * (order * count) = omega arith in
         let all : total (row_forms form head 1 order) ≡ order * count = total-rows count _ _ head 1 order in
         let same = part_same s _ _ (order * count) matrix_end (matrix_within more) p in
-        let wide : Same (number_at p rows_of) 0 (number_at p s) (i * (order * count)) (total (row_forms form head 1 order)) =
+        let fs = row_forms form head 1 order in
+        let wide : Same (number_at p rows_of) 0 (number_at p s) (i * (order * count)) (total fs) =
         record { at = λ j h. same.at j (omega arith) } in
         let moved = lines-shift (row_forms form head 1 order) wide in
         let next = put_more so_far.put (rw (word_digit word i (omega arith), z) at (rw moved at rows)) in

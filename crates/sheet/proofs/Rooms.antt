@@ -20,12 +20,21 @@ use Rattle.std.proofs.Common.{
   get_or-set_same,
   get_or-set_other,
   ext_get_or,
+  ◌-◌,
+  ◌≤◌,
+  pos,
+  drop,
+  ap,
+  length-drop,
 }
 use native.Mathlib.Decide.{ℕ_discrete}
 use Rattle.job.specs.declared.Kind.{Kind}
 use Rattle.job.specs.declared.Kind.TheVariants.{System, Basis, Equation}
 use Rattle.job.specs.Job.{lengths_of, read_count}
 use Rattle.text.specs.Class.{residue}
+use Rattle.std.specs.List.{slice_range}
+use Rattle.std.proofs.lemmas.List.{get_or-take, get_or-drop, length-take-le}
+use Rattle.lines.specs.Steps.{nth}
 use Rattle.body.specs.declared.Lengths.{Lengths}
 use Rattle.body.specs.JobLines.{read_lengths}
 use Rattle.sheet.specs.Rooms.{Filled, FilledAll}
@@ -54,6 +63,22 @@ filled_more {p} {z} {i} {n} {before} {after} f l x e =
 pub filled_nothing : {p : ℕ} {z : ℕ → ℤ} {i : ℕ} {before after : List ℕ} → Filled p z i 0 before after → after ≡ before
 filled_nothing {before = before} {after = after} f =
     ext_get_or 0 after before f.len (λ k l. f.others k (omega arith))
+
+-- a room filled by n numbers of a list from the place a on
+pub filled_part : {p : ℕ} {before after : List ℕ} (w : List ℤ) (a b n : ℕ) → b ≡ a + n → b ≤ length w
+    → Filled p (nth (slice_range w a b)) 0 (length (slice_range w a b)) before after → Filled p (nth w) a n before after
+filled_part {p} w a b n e within f =
+    let long : length (slice_range w a b) ≡ n =
+    omega (arith, length-take-le (b - a) (drop a w), length-drop a w) in
+    record {
+      len = f.len;
+      words = λ k h.
+          let q : 0 + k ≡ k = omega arith in
+          let same : nth (slice_range w a b) (0 + k) ≡ nth w (a + k) =
+          rw q (get_or-take (b - a) (drop a w) k (pos 0) (omega arith) ∙ get_or-drop a w k (pos 0)) in
+          f.words k (omega arith) ∙ ap (λ (x : ℤ). residue x p) same;
+      others = λ k h. f.others k (omega arith);
+    }
 
 module _ {p : ℕ} {z : ℕ → ℤ} {one two three one' two' three' : List ℕ} where
   three_filled : {a b c : ℕ} → Filled p z 0 a one one' → Filled p z a b two two' → Filled p z (a + b) c three three'

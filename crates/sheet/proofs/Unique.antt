@@ -169,8 +169,9 @@ module _ (forms : Header → List Form)
         }
 
     -- a text that is taken is refused by no rule
-    pub outcome_silent : {x : Result Header Refusal} {after : List (List ℕ)} (o : ReadOutcome forms lengths s rooms x after)
-        (d : verdict_of x ≡ done) → Says (sheet_rules forms s rooms (o.taken d).header) done
+    pub outcome_silent : {x : Result Header Refusal} {after : List (List ℕ)}
+        (o : ReadOutcome forms lengths s rooms x after) (d : verdict_of x ≡ done)
+        → Says (sheet_rules forms s rooms (o.taken d).header) done
     outcome_silent o d =
         let t = o.taken d in
         let h = t.header in

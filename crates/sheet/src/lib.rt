@@ -64,13 +64,13 @@ pub fn finish(s: &[u8], d: Cursor) -> Result<(), Refusal>
     Ok(())
 }
 
-// The residues of m numbers from the index `from` on, from the room's first word on.
-pub fn fill(p: u32, w: &[i64], from: usize, m: usize, room: &mut [u32])
-    requires { (0 < p) × (from + m ≤ length w.now) × (m ≤ length room.old) }
-    ensures { Filled p (nth w.now) from m room.old room.new }
+// The residues of the numbers w, from the room's first word on.
+pub fn fill(p: u32, w: &[i64], room: &mut [u32])
+    requires { (0 < p) × (length w.now ≤ length room.old) }
+    ensures { Filled p (nth w.now) 0 (length w.now) room.old room.new }
 {
-    for k in 0..m {
-        room[k] = text::reduce(w[from + k], p);
+    for k in 0..w.len() {
+        room[k] = text::reduce(w[k], p);
     }
 }
 
@@ -81,9 +81,10 @@ fn fill_rooms(p: u32, w: &[i64], l: Lengths, one: &mut [u32], two: &mut [u32], t
         × Filled p (nth w.now) l.one l.two two.old two.new
         × Filled p (nth w.now) (l.one + l.two) l.three three.old three.new }
 {
-    fill(p, w, 0, l.one, one);
-    fill(p, w, l.one, l.two, two);
-    fill(p, w, l.one + l.two, l.three, three);
+    let both = l.one + l.two;
+    fill(p, &w[0..l.one], one);
+    fill(p, &w[l.one..both], two);
+    fill(p, &w[both..both + l.three], three);
 }
 
 // The lines behind line 1, to the end of the text; their numbers are stored.

@@ -6,7 +6,6 @@ use Rattle.job.specs.Job.{Job, buffers}
 use Rattle.job.specs.Refusal.{Answer}
 use Rattle.refusal.specs.Checked.{Judged, Compared, job_of}
 use Rattle.refusal.proofs.Call.{
-  cells_few,
   exact,
   sizes_stop,
   sizes_known,
@@ -34,12 +33,6 @@ pub lengths_of-should-requires : goal.lengths_of-should-requires
 lengths_of-should-requires g c =
     let limits = sizes_known g.C.Cell.handed c.in_ok-check_size.ensures in
     (limits.order, limits.terms)
-
-pub check_lengths-requires : goal.check_lengths-requires
-check_lengths-requires g c =
-    let few = cells_few g.C.Cell.handed in
-    let cells = g.met.C.Cell.laws.0 in
-    (omega arith, (omega arith, omega arith, c.lengths_of-should.ensures.bounded))
 
 -- the job that is handed over
 abbrev job : (g : given.Over) → After-CELLS g → Job

@@ -1,11 +1,8 @@
 -- `refusal::check_buffer` meets its contract. The loop's invariant is `WordsPassed`.
 -- Assumes nothing.
 use Rattle.std.proofs.Common.{arith}
-use Rattle.refusal.proofs.Words.{passed_start, passed_next, passed_over, passed_all}
+use Rattle.refusal.proofs.Words.{passed_next, passed_over, passed_all}
 use Rattle.refusal.proofs.check_buffer.Goals as goal
-
-pub loop-k-init : goal.loop-k-init
-loop-k-init g c = passed_start _ _ _ _ _
 
 pub returns-then-word_at-p : goal.returns-then-word_at-p
 returns-then-word_at-p g c = passed_over c.loop-k.invariant c.loop-k-test.true (omega arith)

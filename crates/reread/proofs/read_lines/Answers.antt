@@ -1,7 +1,6 @@
 -- `reread::read_lines` meets its contract: by the kind.
 -- Assumes nothing.
-use mathlib.Core.Path.{refl}
-use native.Mathlib.Omega.{arith}
+use Rattle.std.proofs.Common.{refl, arith}
 use Rattle.body.proofs.Sizes.{sizes}
 use Rattle.result.specs.ResultSheet.{result_lines}
 use Rattle.reread.proofs.Results.{awaited_ready}

@@ -9,12 +9,6 @@ use Rattle.result.proofs.Sheets.{basis_sheet}
 use Rattle.result.proofs.put_basis.Goals as goal
 use Rattle.result.proofs.put_basis.Goals.{After-put_header-a}
 
-pub overflow_cast-modulus : goal.overflow_cast-modulus
-overflow_cast-modulus c = omega (arith, c.requires.modulus)
-
-pub put_header-a-requires : goal.put_header-a-requires
-put_header-a-requires c = omega (arith, c.requires.first.room)
-
 -- line 1 takes at most 79 bytes
 header_short : (c : After-put_header-a) → c.put_header-a.result ≤ 79
 header_short c =

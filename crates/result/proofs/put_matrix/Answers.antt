@@ -1,13 +1,8 @@
 -- `result::put_matrix` meets its contract. The loop's invariant is `MatrixPut`.
 -- Assumes nothing.
 use Rattle.std.proofs.Common.{arith}
-use Rattle.result.proofs.Products.{factor_within}
 use Rattle.result.proofs.Turns.{matrix-none, matrix_ready, matrix_next}
 use Rattle.result.proofs.put_matrix.Goals as goal
-
-pub overflow_mul-step : goal.overflow_mul-step
-overflow_mul-step c =
-    omega (arith, factor_within c.args.order c.args.count)
 
 pub loop-i-init : goal.loop-i-init
 loop-i-init c = matrix-none c.requires.0 c.requires.1 c.requires.2 c.args.word

@@ -7,9 +7,6 @@ use Rattle.result.proofs.Turns.{ready_earlier}
 use Rattle.result.proofs.Sheets.{vector_sheet}
 use Rattle.result.proofs.put_vector.Goals as goal
 
-pub put_header-a-requires : goal.put_header-a-requires
-put_header-a-requires c = omega (arith, c.requires.ready.room)
-
 pub put_rows-requires : goal.put_rows-requires
 put_rows-requires c =
     let a = c.args in

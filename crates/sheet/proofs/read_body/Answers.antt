@@ -30,9 +30,6 @@ returns-in_err-d c =
     let p = err_from_is_err_and c.from_residual.result c.from_residual.ensures.1 in
     rw (p.1, p.2) (broken-says job_forms c.requires.0.opens (job_forms_lem c.args.h) c.in_err-d.ensures)
 
-pub finish-requires : goal.finish-requires
-finish-requires c = c.in_ok-d.ensures.placed
-
 pub returns : goal.returns
 returns c =
     c.finish.ensures.bodied job_forms _ c.args.h _ _ _ _ c.requires.0.opens (job_forms_lem c.args.h)
