@@ -1,18 +1,32 @@
 -- Jobs that stand in rooms: the buffers that are handed to a call are those of `job_in`, and from the outcome of the
 -- call follows what is printed for it, be it refused or done.
 -- Assumes nothing.
-use mathlib.Core.Path.{◌≡◌, refl, ap, ◌∙◌}
-use mathlib.Core.List.{List, [], ◌∷◌}
-use Prim.Native.Nat.{ℕ, zero, suc, ◌*◌, ◌≤◌}
-use native.Mathlib.Omega.{arith}
-use lib.ListN.{length, get_or, take, replicate, length-replicate}
+use Rattle.std.proofs.Common.{
+  ◌≡◌,
+  refl,
+  ap,
+  ◌∙◌,
+  List,
+  [],
+  ◌∷◌,
+  ℕ,
+  ◌*◌,
+  ◌≤◌,
+  arith,
+  length,
+  get_or,
+  take,
+  replicate,
+  Err,
+}
+use Rattle.std.proofs.lemmas.List.{length-replicate, take-replicate}
 use Rattle.job.specs.declared.Kind.{Kind}
 use Rattle.job.specs.declared.Kind.TheVariants.{System, Basis, Equation}
-use Rattle.job.specs.declared.Answer.{Answer}
-use Rattle.job.specs.Refusal.{Verdict, done, refused, verdict_of}
+use Rattle.job.specs.declared.Refusal.{Refusal}
+use Rattle.job.specs.Refusal.{Verdict, done, refused, refusal_verdict, Answer, verdict_of}
 use Rattle.job.specs.Job.{Job, Buffers, buffers, words, carried, room_of, lengths_of, read_count}
 use Rattle.job.specs.Outcome.{Outcome}
-use Rattle.job.proofs.Says.{OtherThanDone, answer_other}
+use Rattle.job.proofs.Says.{refusal_other}
 use Rattle.refusal.specs.Checked.{job_of, Measured}
 use Rattle.text.specs.Put.{Put}
 use Rattle.header.specs.declared.Header.{Header}
@@ -23,18 +37,12 @@ use Rattle.result.specs.ResultSheet.{result_text}
 use Rattle.reply.specs.Reply.{refusal_line, lent_of, job_in, printed_of, text_for}
 use Rattle.reply.specs.Steps.{Blank, Callable, Refuses, Told}
 
--- the first of some zeros
-zeros_first : (m k : ℕ) → m ≤ k → take {A = ℕ} m (replicate k 0) ≡ replicate m 0
-zeros_first zero k h = refl
-zeros_first (suc m) zero h = absurd (omega arith)
-zeros_first (suc m) (suc k) h = ap (λ (s : List ℕ). 0 ∷ s) (zeros_first m k (omega arith))
-
 module _ {k : ℕ} {s : List ℕ} (b : Blank k s) where
   blank_length : length s ≡ k
   blank_length = ap length b.zeros ∙ length-replicate {A = ℕ} k 0
 
   blank_first : {m : ℕ} → m ≤ k → take m s ≡ replicate m 0
-  blank_first {m} h = ap (λ (t : List ℕ). take m t) b.zeros ∙ zeros_first m k h
+  blank_first {m} h = ap (λ (t : List ℕ). take m t) b.zeros ∙ take-replicate m k 0 h
 
 -- a sheet's job has at most so many words in each buffer
 pub record Spans (l : List ℕ) : Type 0 where
@@ -108,26 +116,28 @@ job_handed {h} {one} {two} c m =
     (handed-lent one two c.fourth c.scratch h.kind h.r h.n s c.third))
 
 -- what is printed, for a job that is the one in the rooms
-module _ {h : Header} {rooms : List (List ℕ)} {job : Job} {a : Answer} {after : Buffers} (is : job ≡ job_in h rooms)
-    (outcome : Outcome words job a after) {before out : List ℕ} {e : ℕ} where
-  pub told_refused : OtherThanDone a → Refuses (verdict_of a) before out e → Told h rooms before out e
+module _ {h : Header} {rooms : List (List ℕ)} {job : Job} {after : Buffers} (is : job ≡ job_in h rooms)
+    {before out : List ℕ} {e : ℕ} where
+  pub told_refused
+      : {x : Refusal} → Outcome words job (Err x) after → Refuses (refusal_verdict x) before out e
+      → Told h rooms before out e
   unfolding text_for
-  told_refused other put = by (verdict_of a) refl put
+  told_refused {x} outcome put = by (refusal_verdict x) refl put
     where
-      by : (v : Verdict) → verdict_of a ≡ v → Refuses v before out e → Told h rooms before out e
-      by done q put = absurd (answer_other a other q)
+      by : (v : Verdict) → refusal_verdict x ≡ v → Refuses v before out e → Told h rooms before out e
+      by done q put = absurd (refusal_other x q)
       by (refused number first second) q put = record {
         text = refusal_line number first second;
-        called = record { answer = a; after = after; outcome = rw is at outcome; prints = rw q refl };
+        called = record { answer = Err x; after = after; outcome = rw is at outcome; prints = rw q refl };
         put = put;
       }
 
   pub told_done
-      : verdict_of a ≡ done
+      : {a : Answer} → Outcome words job a after → verdict_of a ≡ done
       → Put 0 (result_text h (printed_of h.kind after.three after.four)) before out e
       → Told h rooms before out e
   unfolding text_for
-  told_done q put = record {
+  told_done {a} outcome q put = record {
     text = result_text h (printed_of h.kind after.three after.four);
     called = record { answer = a; after = after; outcome = rw is at outcome; prints = rw q refl };
     put = put;

@@ -1,13 +1,10 @@
 -- Two replies: a text over 65536 bytes is refused 10, and no text at all is refused 9 at line 1. By `reply_unique`
 -- nothing else is printed for them.
 -- Assumes nothing.
-use mathlib.Core.Path.{refl, ap}
-use mathlib.Core.List.{List, []}
-use Prim.Native.Nat.{ℕ, ◌<◌}
-use native.Mathlib.Omega.{arith}
-use lib.ListN.{length, length-append, length-replicate}
-use Rattle.job.specs.declared.Answer.TheVariants.{Large}
-use Rattle.job.specs.Refusal.{done, refused, Says, verdict_of}
+use Rattle.std.proofs.Common.{refl, ap, List, [], ℕ, ◌<◌, arith, length, length-append, Err}
+use Rattle.std.proofs.lemmas.List.{length-replicate}
+use Rattle.job.specs.declared.Refusal.TheVariants.{Form, Large}
+use Rattle.job.specs.Refusal.{done, refused, Says, refusal_verdict}
 use Rattle.job.specs.Rules.{length_rules}
 use Rattle.job.proofs.Says.{
   refused_not_done,
@@ -19,10 +16,9 @@ use Rattle.job.proofs.Says.{
 }
 use Rattle.text.specs.Lines.{items, lines}
 use Rattle.header.specs.declared.Header.{Header}
-use Rattle.sheet.specs.declared.Reading.TheVariants.{Refused, Broken}
 use Rattle.sheet.specs.Sheet.{Keeps}
 use Rattle.sheet.specs.JobSheet.{job_forms}
-use Rattle.sheet.specs.Rules.{read_verdict, room_rules, open_rules, sheet_rules}
+use Rattle.sheet.specs.Rules.{room_rules, open_rules, sheet_rules}
 use Rattle.sheet.specs.Read.{JobOutcome}
 use Rattle.reply.specs.Reply.{refusal_line, fresh, Reply}
 use Rattle.reply.proofs.Reading.{reply_refused}
@@ -34,8 +30,8 @@ rooms_silent =
     let long = length-replicate {A = ℕ} 2048 0 in
     says_past _ _ _ (λ q. q long) (says_past _ _ _ (λ q. q long) (says_past _ _ _ (λ q. q long) says_none))
 
-large_outcome : {s : List ℕ} → 65536 < length s → JobOutcome s fresh (Refused Large) fresh
-unfolding sheet_rules open_rules read_verdict verdict_of
+large_outcome : {s : List ℕ} → 65536 < length s → JobOutcome s fresh (Err Large) fresh
+unfolding sheet_rules open_rules refusal_verdict
 large_outcome more = record {
   verdict = λ h l.
       says-append_refused _ _ 10 0 0
@@ -45,7 +41,7 @@ large_outcome more = record {
 }
 
 pub reply_large : {s : List ℕ} → 65536 < length s → Reply s (refusal_line 10 0 0)
-unfolding read_verdict verdict_of
+unfolding refusal_verdict
 reply_large more = reply_refused (large_outcome more) refl
 
 -- line 1 has a line feed
@@ -53,8 +49,8 @@ nothing_kept : (h : Header) → ¬ Keeps job_forms [] h 1
 unfolding job_forms lines items
 nothing_kept h k = omega (arith, simp length-append at (ap length k.begins.text))
 
-empty_outcome : JobOutcome [] fresh (Broken 1) fresh
-unfolding sheet_rules open_rules read_verdict
+empty_outcome : JobOutcome [] fresh (Err (Form 1)) fresh
+unfolding sheet_rules open_rules refusal_verdict
 empty_outcome = record {
   verdict = λ h l.
       says-append_refused _ _ 9 1 0
@@ -65,5 +61,5 @@ empty_outcome = record {
 }
 
 pub reply_empty : Reply [] (refusal_line 9 1 0)
-unfolding read_verdict
+unfolding refusal_verdict
 reply_empty = reply_refused empty_outcome refl

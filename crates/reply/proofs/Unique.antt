@@ -1,13 +1,10 @@
 -- What is printed for a text follows from the text: two replies are the same, and so is every byte of the buffer that
 -- they are put into.
 -- Assumes nothing.
-use mathlib.Core.Path.{◌≡◌, refl, sym, ap, ◌∙◌}
-use mathlib.Core.List.{List}
-use Prim.Native.Nat.{ℕ}
-use Rattle.job.specs.Refusal.{Verdict, done, refused}
+use Rattle.std.proofs.Common.{◌≡◌, refl, sym, ap, ◌∙◌, List, ℕ}
+use Rattle.job.specs.Refusal.{Verdict, done, refused, verdict_of}
 use Rattle.job.proofs.Unique.{outcome_unique}
 use Rattle.header.specs.declared.Header.{Header}
-use Rattle.sheet.specs.Rules.{read_verdict}
 use Rattle.sheet.proofs.Unique.{job_outcome_unique}
 use Rattle.reply.specs.Reply.{Called, Reply, Replied}
 
@@ -19,18 +16,18 @@ called_unique f g =
 
 -- and for a text
 pub reply_unique : {s t u : List ℕ} → Reply s t → Reply s u → t ≡ u
-reply_unique {s} {t} {u} f g = by (read_verdict f.reading) refl
+reply_unique {s} {t} {u} f g = by (verdict_of f.reading) refl
   where
     same : (f.reading ≡ g.reading) × (f.rooms ≡ g.rooms)
     same = job_outcome_unique f.read g.read
 
-    by : (v : Verdict) → read_verdict f.reading ≡ v → t ≡ u
+    by : (v : Verdict) → verdict_of f.reading ≡ v → t ≡ u
     by done e =
         let brought = (f.read.taken e).brought in
         let other = g.calls _ (sym same.0 ∙ brought) in
         called_unique (f.calls _ brought) (rw (sym same.1) at other)
     by (refused number first second) e =
-        let other = ap read_verdict (sym same.0) ∙ e in
+        let other = ap verdict_of (sym same.0) ∙ e in
         f.refuses number first second e ∙ sym (g.refuses number first second other)
 
 -- every byte afterwards and the length follow from the text and the buffer

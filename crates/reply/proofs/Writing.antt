@@ -1,33 +1,23 @@
 -- What a call that is done leaves to be printed: the buffers are as long as they were, and within the limits of a sheet
 -- the writer refuses nothing of them.
 -- Assumes nothing.
-use mathlib.Core.Path.{◌≡◌, refl, ap, ◌∙◌}
-use mathlib.Core.List.{List, ◌++◌}
-use Prim.Native.Nat.{ℕ, ◌*◌, ◌≤◌}
-use native.Mathlib.Nat.{one-mul}
-use native.Mathlib.Omega.{arith}
-use lib.ListN.{length, get_or}
+use Rattle.std.proofs.Common.{◌≡◌, refl, ap, ◌∙◌, List, ◌++◌, ℕ, ◌*◌, ◌≤◌, one-mul, arith, length, get_or}
 use Rattle.job.specs.declared.Kind.{Kind}
 use Rattle.job.specs.declared.Kind.TheVariants.{System, Basis, Equation}
-use Rattle.job.specs.declared.Answer.{Answer}
-use Rattle.job.specs.Refusal.{done, Says, verdict_of}
-use Rattle.job.specs.Job.{Job, Buffers, listed, words, bytes, word_at, lengths_of}
+use Rattle.job.specs.Refusal.{done, Says, Answer, verdict_of}
+use Rattle.job.specs.Job.{Job, Buffers, listed, words, bytes, lengths_of}
 use Rattle.job.specs.Rules.{limit_rules, size_rules, length_rules, check_rules, call_rules}
 use Rattle.job.specs.Outcome.{Filled, Solved, Outcome}
 use Rattle.job.proofs.Says.{says_none, says_past, says_split, says-append_done}
-use Rattle.job.proofs.Accepted.{accepted}
+use Rattle.job.proofs.Accepted.{WordsBelow, accepted}
 use Rattle.header.specs.Header.{header}
-use Rattle.result.specs.Print.{FirstOver}
 use Rattle.result.specs.Write.{write_rules}
 use Rattle.result.proofs.Checks.{vector_silent, basis_silent}
 use Rattle.reply.specs.Reply.{printed_of}
 
 -- a buffer of results has no word that is p or more
-filled-below : {p count : ℕ} {before after : List ℕ} → Filled words p count before after → length after ≡ count
-    → FirstOver p after count
-unfolding word_at
-filled-below f exact =
-    record { within = omega arith; below = f.below; over = λ more. absurd (omega arith) }
+filled-below : {p count : ℕ} {before after : List ℕ} → Filled words p count before after → WordsBelow words p count after
+filled-below f = record { below = f.below }
 
 module _ (r n p : ℕ) (lent after : Buffers) where
   -- the third and the fourth buffer are as long as they were
@@ -47,13 +37,12 @@ module _ (r n p : ℕ) (lent after : Buffers) where
       → Says (write_rules (header kind r n p) (printed_of kind after.three after.four) out) done
   unfolding Solved printed_of lengths_of
   solved_silent System out s third fourth limits whole =
-      (vector_silent r refl limits fourth whole (filled-below s.3 fourth) (omega arith)).rest done says_none
+      vector_silent System r n p after.four out r refl limits fourth whole (filled-below s.3)
   solved_silent Basis out s third fourth limits whole =
-      (basis_silent limits third fourth whole (filled-below s.2 third) (omega arith)
-      (filled-below s.3 fourth) (omega arith)).rest done says_none
+      basis_silent r n p after.three after.four out limits third fourth whole (filled-below s.2) (filled-below s.3)
   solved_silent Equation out s third fourth limits whole =
       let one = one-mul n in
-      (vector_silent 1 refl limits (omega arith) whole (filled-below s.3 fourth) (omega arith)).rest done says_none
+      vector_silent Equation r n p after.four out 1 refl limits (omega arith) whole (rw one-mul (filled-below s.3))
 
 -- a call that is done
 module _ {job : Job} {a : Answer} {after : Buffers} (o : Outcome words job a after) (d : verdict_of a ≡ done) where

@@ -2,11 +2,11 @@
 -- or the one line of the refusal. The text is read as a job sheet, the job that it holds is called, and the words that
 -- the call leaves are written; each of the three steps is the one that its own definition says.
 -- Assumes nothing.
-use Rattle.std.specs.Prelude.{◌≡◌, refl, cond, List, [], ◌∷◌, ◌++◌, ℕ, ltb, take, replicate, get_or}
+use Rattle.std.specs.Prelude.{◌≡◌, refl, cond, List, [], ◌∷◌, ◌++◌, ℕ, ltb, take, replicate, get_or, Result, Ok}
 use Rattle.job.specs.declared.Kind.{Kind}
 use Rattle.job.specs.declared.Kind.TheVariants.{System, Basis, Equation}
-use Rattle.job.specs.declared.Answer.{Answer}
-use Rattle.job.specs.Refusal.{Verdict, done, refused, verdict_of}
+use Rattle.job.specs.declared.Refusal.{Refusal}
+use Rattle.job.specs.Refusal.{Verdict, done, refused, Answer, verdict_of}
 use Rattle.job.specs.Job.{Job, Buffers, buffers, words, carried, room_of, lengths_of, read_count}
 use Rattle.job.specs.Outcome.{Outcome}
 use Rattle.refusal.specs.Checked.{job_of}
@@ -14,9 +14,6 @@ use Rattle.text.specs.Decimal.{digits, digits_up_to}
 use Rattle.text.specs.Put.{Put}
 use Rattle.lines.specs.Forms.{numbered}
 use Rattle.header.specs.declared.Header.{Header}
-use Rattle.sheet.specs.declared.Reading.{Reading}
-use Rattle.sheet.specs.declared.Reading.TheVariants.{Done}
-use Rattle.sheet.specs.Rules.{read_verdict}
 use Rattle.sheet.specs.Read.{JobOutcome}
 use Rattle.result.specs.ResultSheet.{result_text}
 
@@ -88,13 +85,13 @@ pub record Called (h : Header) (rooms : List (List ℕ)) (t : List ℕ) : Type 0
 
 -- the text t is what is printed for the text s
 pub record Reply (s t : List ℕ) : Type 0 where
-  pub reading : Reading
+  pub reading : Result Header Refusal
   pub rooms : List (List ℕ)
   pub read : JobOutcome s fresh reading rooms
   pub refuses
-      : (number first second : ℕ) → read_verdict reading ≡ refused number first second
+      : (number first second : ℕ) → verdict_of reading ≡ refused number first second
       → t ≡ refusal_line number first second
-  pub calls : (h : Header) → reading ≡ Done h → Called h rooms t
+  pub calls : (h : Header) → reading ≡ Ok h → Called h rooms t
 
 -- it stands at the beginning of a buffer, has so many bytes, and the bytes behind it are what they were
 pub record Replied (s before after : List ℕ) (length : ℕ) : Type 0 where

@@ -1,24 +1,19 @@
 -- What the parts of the solving program's work ask and find.
 -- Assumes nothing.
-use Rattle.std.specs.Prelude.{◌≡◌, refl, List, [], ◌∷◌, ℕ, length, replicate}
+use Rattle.std.specs.Prelude.{◌≡◌, refl, List, [], ◌∷◌, ℕ, length, replicate, Result, Ok, Err}
 use Rattle.job.specs.declared.Kind.TheVariants.{Basis}
-use Rattle.job.specs.Refusal.{Verdict, done, refused}
+use Rattle.job.specs.declared.Refusal.{Refusal}
+use Rattle.job.specs.Refusal.{Verdict, done, refused, refusal_verdict}
 use Rattle.text.specs.Put.{Put}
 use Rattle.header.specs.declared.Header.{Header}
 use Rattle.body.specs.Parts.{Small}
 use Rattle.sheet.specs.Parts.{Roomy}
-use Rattle.result.specs.declared.Written.{Written}
-use Rattle.result.specs.declared.Written.TheVariants.{Done}
 use Rattle.reply.specs.Reply.{refusal_line, Called}
 
 -- the line of a refusal stands at the beginning of a buffer
 abbrev pub Refuses : Verdict → List ℕ → List ℕ → ℕ → Type 0
 Refuses done before after e = Unit {0}
 Refuses (refused number first second) before after e = Put 0 (refusal_line number first second) before after e
-
--- the length that a writer's answer brings
-pub record Brings (w : Written) (e : ℕ) : Type 0 where
-  pub is : (l : ℕ) → w ≡ Done l → e ≡ l
 
 -- a buffer of so many zeros
 pub record Blank (count : ℕ) (s : List ℕ) : Type 0 where
@@ -43,3 +38,10 @@ pub record Told (h : Header) (rooms : List (List ℕ)) (before after : List ℕ)
   pub text : List ℕ
   pub called : Called h rooms text
   pub put : Put 0 text before after e
+
+-- what comes of a text or of its job, where P says of a buffer and a length what is printed: it stands there, or it does
+-- as soon as the line of the refusal is put there
+abbrev pub Comes : (List ℕ → ℕ → Type 0) → Result ℕ Refusal → List ℕ → Type 0
+Comes P (Ok length) after = P after length
+Comes P (Err refusal) after =
+    (last : List ℕ) (length : ℕ) → Refuses (refusal_verdict refusal) after last length → P last length

@@ -2,47 +2,27 @@
 #![tactic(auto)]
 
 ghost use Rattle.std.specs.Prelude.{[], ◌∷◌, ◌≤◌, length};
-ghost use Rattle.job.specs.Refusal.{verdict_of};
+ghost use Rattle.job.specs.Refusal.{refusal_verdict};
 ghost use Rattle.job.specs.Job.{buffers, words};
 ghost use Rattle.job.specs.Outcome.{Outcome};
 ghost use Rattle.refusal.specs.Checked.{job_of};
-ghost use Rattle.text.specs.Put.{Put};
 ghost use Rattle.header.specs.Header.{header};
 ghost use Rattle.result.specs.Write.{WriteOutcome};
-ghost use Rattle.reply.specs.Reply.{refusal_line, printed_of, Replied};
-ghost use Rattle.reply.specs.Steps.{Refuses, Brings, Callable, Told};
+ghost use Rattle.reply.specs.Reply.{printed_of, Replied};
+ghost use Rattle.reply.specs.Steps.{Refuses, Callable, Told, Comes};
 
 use header::Header;
-use job::{Answer, Kind};
-use result::Written;
-use sheet::Reading;
+use job::{Kind, Refusal};
+use result::Places;
 
-// `refused`, number, first place and second place, parted by tabs, and a line feed.
-fn put_refusal(out: &mut [u8], number: u64, first: u64, second: u64) -> usize
+// The line of a refusal: `refused`, number, first place and second place, parted by tabs, and a line feed.
+fn refuse(out: &mut [u8], refusal: Refusal) -> usize
     requires { 71 ≤ length out.old }
-    ensures { Put 0 (refusal_line number first second) out.old out.new result }
+    ensures { Refuses (refusal_verdict refusal) out.old out.new result }
 {
+    let Places(number, first, second) = Places::from(refusal);
     let a = result::put_bytes(out, 0, b"refused");
-    result::put_three(out, a, number, first, second)
-}
-
-// The line of a refusal.
-fn refuse(out: &mut [u8], a: Answer) -> usize
-    requires { 71 ≤ length out.old }
-    ensures { Refuses (verdict_of a) out.old out.new result }
-{
-    let q = result::place(a);
-    put_refusal(out, q.0 as u64, q.1 as u64, q.2 as u64)
-}
-
-// The length of a text that was written.
-fn length_of(w: Written) -> usize
-    ensures { Brings w result }
-{
-    match w {
-        Written::Done { length } => length,
-        Written::Refused(_) => 0,
-    }
+    result::put_three(out, a, u64::from(number), first as u64, u64::from(second))
 }
 
 // Does a job of a kind: a system or an equation by halving, a basis by Newton.
@@ -56,7 +36,7 @@ fn solve(
     three: &mut [u32],
     four: &mut [u32],
     work: &mut [u32],
-) -> Answer
+) -> Result<(), Refusal>
     ensures { Outcome words
         (job_of kind r n p
         (buffers one.now two.now three.old four.old work.old))
@@ -71,7 +51,16 @@ fn solve(
 }
 
 // Writes the result sheet of a kind: y in the fourth buffer, or Y and Z in the third and the fourth.
-fn write(kind: Kind, r: u64, n: u64, p: u64, three: &[u32], four: &[u32], out: &mut [u8]) -> Written
+#[tactic(auto, unfolding(crate::specs::Reply::printed_of))]
+fn write(
+    kind: Kind,
+    r: u64,
+    n: u64,
+    p: u64,
+    three: &[u32],
+    four: &[u32],
+    out: &mut [u8],
+) -> Result<usize, Refusal>
     ensures { WriteOutcome (header kind r n p) (printed_of kind three.now four.now)
         out.old result out.new }
 {
@@ -82,7 +71,7 @@ fn write(kind: Kind, r: u64, n: u64, p: u64, three: &[u32], four: &[u32], out: &
     }
 }
 
-// Does the job that stands in the rooms, and prints what comes of it.
+// Does the job that stands in the rooms, and writes its result sheet.
 fn answer_job(
     h: Header,
     one: &[u32],
@@ -91,47 +80,52 @@ fn answer_job(
     four: &mut [u32],
     work: &mut [u32],
     out: &mut [u8],
-) -> usize
+) -> Result<usize, Refusal>
     requires { Callable h one.now two.now three.old four.old work.old out.old }
-    ensures { Told h (one.now ∷ two.now ∷ three.old ∷ [])
-        out.old out.new result }
+    ensures { Comes (Told h (one.now ∷ two.now ∷ three.old ∷ []) out.old)
+        result out.new }
 {
     let kind = h.kind;
-    let l = refusal::lengths_of(kind, h.r as usize, h.n as usize);
-    let first = l[0];
-    let second = l[1];
-    let third = l[2];
-    let fourth = l[3];
-    let fifth = l[4];
-    let answer = solve(
+    let [first, second, third, fourth, fifth] = refusal::lengths_of(
+        kind,
+        h.r as usize,
+        h.n as usize,
+    );
+    let three = &mut three[..third];
+    let four = &mut four[..fourth];
+    solve(
         kind,
         h.r,
         h.n,
         h.p,
         &one[..first],
         &two[..second],
-        &mut three[..third],
-        &mut four[..fourth],
+        three,
+        four,
         &mut work[..fifth],
-    );
-    let Answer::Done = answer else {
-        return refuse(out, answer);
-    };
-    length_of(write(kind, h.r, h.n, h.p, &three[..third], &four[..fourth], out))
+    )?;
+    write(kind, h.r, h.n, h.p, three, four, out)
 }
 
-// Answers a text: what the solving program prints for it goes to the beginning of `out`, and so many bytes it has.
-pub fn reply(s: &[u8], out: &mut [u8; 65536]) -> usize
-    ensures { Replied s.now out.old out.new result }
+// Reads the text as a job sheet, and does its job.
+fn answer(s: &[u8], out: &mut [u8; 65536]) -> Result<usize, Refusal>
+    ensures { Comes (Replied s.now out.old) result out.new }
 {
     let mut one = [0u32; 2048];
     let mut two = [0u32; 2048];
     let mut three = [0u32; 2048];
     let mut four = [0u32; 1024];
     let mut work = [0u32; 16384];
-    match sheet::read_job(s, &mut one, &mut two, &mut three) {
-        Reading::Done(h) => answer_job(h, &one, &two, &mut three, &mut four, &mut work, out),
-        Reading::Refused(answer) => refuse(out, answer),
-        Reading::Broken(line) => put_refusal(out, 9, line as u64, 0),
+    let h = sheet::read_job(s, &mut one, &mut two, &mut three)?;
+    answer_job(h, &one, &two, &mut three, &mut four, &mut work, out)
+}
+
+// Answers a text: what the solving program prints for it goes to the beginning of `out`, and so many bytes it has.
+pub fn reply(s: &[u8], out: &mut [u8; 65536]) -> usize
+    ensures { Replied s.now out.old out.new result }
+{
+    match answer(s, out) {
+        Ok(length) => length,
+        Err(refusal) => refuse(out, refusal),
     }
 }

@@ -1,10 +1,10 @@
--- `reply::refuse` meets its contract: the line is that of the number and the places of the answer.
+-- `reply::refuse` meets its contract: the word, which leaves room for the numbers, and the number and the places of the
+-- refusal.
 -- Assumes nothing.
-use mathlib.Core.Path.{◌≡◌}
-use mathlib.Core.List.{List}
-use Prim.Native.Nat.{ℕ}
-use Rattle.job.specs.Refusal.{Verdict, done, refused, verdict_of}
+use Rattle.std.proofs.Common.{◌≡◌, List, ℕ}
+use Rattle.job.specs.Refusal.{Verdict, done, refused, refusal_verdict}
 use Rattle.text.specs.Put.{Put}
+use Rattle.text.proofs.Puts.{put_more}
 use Rattle.result.specs.declared.Places.{Places}
 use Rattle.result.specs.Print.{places_of}
 use Rattle.reply.specs.Reply.{refusal_line}
@@ -18,6 +18,10 @@ refuses done q is put = tt
 refuses (refused number first second) q is put = rw is at put
 
 pub returns : goal.returns
+unfolding refusal_line
 returns c =
-    let a = c.args.a in
-    refuses (verdict_of a) c.place-q.result c.place-q.ensures c.put_refusal.ensures
+    let one = c.from.ensures in
+    let two = c.from-2.ensures in
+    let put = put_more c.put_bytes-a.ensures c.put_three.ensures in
+    refuses (refusal_verdict c.args.refusal) c.from-number.result c.from-number.ensures
+    (rw (one, two) at put)
