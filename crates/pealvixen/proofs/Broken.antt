@@ -15,7 +15,7 @@ use Rattle.job.specs.Rules.{limit_rules, size_rules, length_rules}
 use Rattle.job.proofs.Says.{says_none, says_tail, says_split, refused_not_done}
 use Rattle.job.proofs.Accepted.{Limits, limits_of}
 use Rattle.text.specs.Lines.{Form}
-use Rattle.header.specs.declared.Header.{Header}
+use Rattle.job.specs.declared.Header.{Header}
 use Rattle.header.specs.Header.{header}
 use Rattle.sheet.specs.declared.Reading.TheVariants.{Broken}
 use Rattle.sheet.specs.Sheet.{Keeps, FirstLine}

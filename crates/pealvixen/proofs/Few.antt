@@ -13,7 +13,7 @@ use Rattle.job.proofs.Accepted.{Limits}
 use Rattle.text.specs.Lines.{Form}
 use Rattle.lines.specs.Forms.{numbered, row_forms, matrix_forms}
 use Rattle.lines.proofs.Forms.{length-rows}
-use Rattle.header.specs.declared.Header.{Header}
+use Rattle.job.specs.declared.Header.{Header}
 use Rattle.body.specs.JobLines.{signed, job_lines}
 use Rattle.sheet.specs.declared.Reading.{Reading}
 use Rattle.sheet.specs.declared.Reading.TheVariants.{Done, Refused, Broken}

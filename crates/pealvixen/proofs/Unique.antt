@@ -9,7 +9,7 @@ use Rattle.job.specs.declared.Answer.{Answer}
 use Rattle.job.specs.Refusal.{done, refused, verdict_of}
 use Rattle.job.specs.Job.{Job, Buffers, Handed}
 use Rattle.job.proofs.Unique.{outcome_unique}
-use Rattle.header.specs.declared.Header.{Header}
+use Rattle.job.specs.declared.Header.{Header}
 use Rattle.sheet.specs.declared.Reading.{Reading}
 use Rattle.sheet.specs.Read.{JobOutcome}
 use Rattle.sheet.proofs.Unique.{job_outcome_unique}

@@ -5,7 +5,7 @@ use Rattle.std.specs.Prelude.{◌≡◌, refl, List, ℕ}
 use Rattle.job.specs.declared.Kind.{Kind}
 use Rattle.job.specs.declared.Kind.TheVariants.{System, Basis, Equation}
 use Rattle.job.specs.Refusal.{refused, verdict_of}
-use Rattle.header.specs.declared.Header.{Header}
+use Rattle.job.specs.declared.Header.{Header}
 use Rattle.sheet.specs.declared.Reading.{Reading}
 use Rattle.sheet.specs.declared.Reading.TheVariants as reading
 use Rattle.result.specs.declared.Written.{Written}

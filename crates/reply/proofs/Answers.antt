@@ -8,7 +8,7 @@ use Rattle.job.specs.Job.{buffers, words}
 use Rattle.job.specs.Outcome.{Outcome}
 use Rattle.job.proofs.Says.{says_unique}
 use Rattle.refusal.specs.Checked.{job_of, Measured}
-use Rattle.header.specs.declared.Header.{Header}
+use Rattle.job.specs.declared.Header.{Header}
 use Rattle.result.specs.Write.{WriteOutcome}
 use Rattle.reply.specs.Reply.{printed_of}
 use Rattle.reply.specs.Steps.{Callable, Told, Comes}

@@ -29,7 +29,7 @@ use Rattle.job.specs.Outcome.{Outcome}
 use Rattle.job.proofs.Says.{refusal_other}
 use Rattle.refusal.specs.Checked.{job_of, Measured}
 use Rattle.text.specs.Put.{Put}
-use Rattle.header.specs.declared.Header.{Header}
+use Rattle.job.specs.declared.Header.{Header}
 use Rattle.body.specs.Parts.{Small}
 use Rattle.body.proofs.Sizes.{sizes}
 use Rattle.sheet.specs.Parts.{Roomy}

@@ -15,7 +15,7 @@ use Rattle.job.proofs.Says.{
   says-append_refused,
 }
 use Rattle.text.specs.Lines.{items, lines}
-use Rattle.header.specs.declared.Header.{Header}
+use Rattle.job.specs.declared.Header.{Header}
 use Rattle.sheet.specs.Sheet.{Keeps}
 use Rattle.sheet.specs.JobSheet.{job_forms}
 use Rattle.sheet.specs.Rules.{room_rules, open_rules, sheet_rules}

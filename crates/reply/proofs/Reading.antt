@@ -10,7 +10,7 @@ use Rattle.job.specs.Job.{bytes, lengths_of, read_count}
 use Rattle.job.specs.Rules.{limit_rules, size_rules}
 use Rattle.job.proofs.Says.{refused_not_done, refusal_other, says_tail, says_split}
 use Rattle.job.proofs.Accepted.{limits_of, small_of}
-use Rattle.header.specs.declared.Header.{Header}
+use Rattle.job.specs.declared.Header.{Header}
 use Rattle.body.specs.JobLines.{read_lengths}
 use Rattle.body.specs.Parts.{Small}
 use Rattle.sheet.specs.Sheet.{Sheet, FirstLine}

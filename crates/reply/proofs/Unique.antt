@@ -4,7 +4,7 @@
 use Rattle.std.proofs.Common.{◌≡◌, refl, sym, ap, ◌∙◌, List, ℕ}
 use Rattle.job.specs.Refusal.{Verdict, done, refused, verdict_of}
 use Rattle.job.proofs.Unique.{outcome_unique}
-use Rattle.header.specs.declared.Header.{Header}
+use Rattle.job.specs.declared.Header.{Header}
 use Rattle.sheet.proofs.Unique.{job_outcome_unique}
 use Rattle.reply.specs.Reply.{Called, Reply, Replied}
 

@@ -13,7 +13,7 @@ use Rattle.refusal.specs.Checked.{job_of}
 use Rattle.text.specs.Decimal.{digits, digits_up_to}
 use Rattle.text.specs.Put.{Put}
 use Rattle.lines.specs.Forms.{numbered}
-use Rattle.header.specs.declared.Header.{Header}
+use Rattle.job.specs.declared.Header.{Header}
 use Rattle.sheet.specs.Read.{JobOutcome}
 use Rattle.result.specs.ResultSheet.{result_text}
 

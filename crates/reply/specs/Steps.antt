@@ -5,7 +5,7 @@ use Rattle.job.specs.declared.Kind.TheVariants.{Basis}
 use Rattle.job.specs.declared.Refusal.{Refusal}
 use Rattle.job.specs.Refusal.{Verdict, done, refused, refusal_verdict}
 use Rattle.text.specs.Put.{Put}
-use Rattle.header.specs.declared.Header.{Header}
+use Rattle.job.specs.declared.Header.{Header}
 use Rattle.body.specs.Parts.{Small}
 use Rattle.sheet.specs.Parts.{Roomy}
 use Rattle.reply.specs.Reply.{refusal_line, Called}

@@ -6,13 +6,11 @@ ghost use Rattle.job.specs.Refusal.{refusal_verdict};
 ghost use Rattle.job.specs.Job.{buffers, words};
 ghost use Rattle.job.specs.Outcome.{Outcome};
 ghost use Rattle.refusal.specs.Checked.{job_of};
-ghost use Rattle.header.specs.Header.{header};
 ghost use Rattle.result.specs.Write.{WriteOutcome};
 ghost use Rattle.reply.specs.Reply.{printed_of, Replied};
 ghost use Rattle.reply.specs.Steps.{Refuses, Callable, Told, Comes};
 
-use header::Header;
-use job::{Kind, Refusal};
+use job::{Header, Kind, Refusal};
 use result::Places;
 
 // The line of a refusal: `refused`, number, first place and second place, parted by tabs, and a line feed.
@@ -25,12 +23,9 @@ fn refuse(out: &mut [u8], refusal: Refusal) -> usize
     result::put_three(out, a, u64::from(number), first as u64, u64::from(second))
 }
 
-// Does a job of a kind: a system or an equation by halving, a basis by Newton.
+// Does a job: a system or an equation by halving, a basis by Newton.
 fn solve(
-    kind: Kind,
-    r: u64,
-    n: u64,
-    p: u64,
+    h: Header,
     one: &[u32],
     two: &[u32],
     three: &mut [u32],
@@ -38,36 +33,28 @@ fn solve(
     work: &mut [u32],
 ) -> Result<(), Refusal>
     ensures { Outcome words
-        (job_of kind r n p
+        (job_of h.kind h.r h.n h.p
         (buffers one.now two.now three.old four.old work.old))
         result
         (buffers one.now two.now three.new four.new work.new) }
 {
-    match kind {
-        Kind::System => halving::system(r, n, p, one, two, three, four, work),
-        Kind::Basis => newton::basis(r, n, p, one, two, three, four, work),
-        Kind::Equation => equation::by_halving(r, n, p, one, two, three, four, work),
+    match h.kind {
+        Kind::System => halving::system(h.r, h.n, h.p, one, two, three, four, work),
+        Kind::Basis => newton::basis(h.r, h.n, h.p, one, two, three, four, work),
+        Kind::Equation => equation::by_halving(h.r, h.n, h.p, one, two, three, four, work),
     }
 }
 
-// Writes the result sheet of a kind: y in the fourth buffer, or Y and Z in the third and the fourth.
+// Writes the result sheet of a job: y in the fourth buffer, or Y and Z in the third and the fourth.
 #[tactic(auto, unfolding(crate::specs::Reply::printed_of))]
-fn write(
-    kind: Kind,
-    r: u64,
-    n: u64,
-    p: u64,
-    three: &[u32],
-    four: &[u32],
-    out: &mut [u8],
-) -> Result<usize, Refusal>
-    ensures { WriteOutcome (header kind r n p) (printed_of kind three.now four.now)
+fn write(h: Header, three: &[u32], four: &[u32], out: &mut [u8]) -> Result<usize, Refusal>
+    ensures { WriteOutcome h (printed_of h.kind three.now four.now)
         out.old result out.new }
 {
-    match kind {
-        Kind::System => result::write_system(r, n, p, four, out),
-        Kind::Basis => result::write_basis(r, n, p, three, four, out),
-        Kind::Equation => result::write_equation(r, n, p, four, out),
+    match h.kind {
+        Kind::System => result::write_system(h.r, h.n, h.p, four, out),
+        Kind::Basis => result::write_basis(h.r, h.n, h.p, three, four, out),
+        Kind::Equation => result::write_equation(h.r, h.n, h.p, four, out),
     }
 }
 
@@ -85,26 +72,18 @@ fn answer_job(
     ensures { Comes (Told h (one.now ∷ two.now ∷ three.old ∷ []) out.old)
         result out.new }
 {
-    let kind = h.kind;
-    let [first, second, third, fourth, fifth] = refusal::lengths_of(
-        kind,
-        h.r as usize,
-        h.n as usize,
-    );
+    let [first, second, third, fourth, fifth] = refusal::lengths_of(h);
     let three = &mut three[..third];
     let four = &mut four[..fourth];
     solve(
-        kind,
-        h.r,
-        h.n,
-        h.p,
+        h,
         &one[..first],
         &two[..second],
         three,
         four,
         &mut work[..fifth],
     )?;
-    write(kind, h.r, h.n, h.p, three, four, out)
+    write(h, three, four, out)
 }
 
 // Reads the text as a job sheet, and does its job.

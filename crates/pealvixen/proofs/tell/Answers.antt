@@ -3,7 +3,7 @@
 use mathlib.Core.Path.{sym, ap, ◌∙◌}
 use Prim.Native.Nat.{ℕ, ◌<◌}
 use native.Mathlib.Omega.{arith}
-use Rattle.header.specs.declared.Header.{Header}
+use Rattle.job.specs.declared.Header.{Header}
 use Rattle.pealvixen.specs.Packing.{packed}
 use Rattle.pealvixen.specs.declared.SheetRead.{SheetRead}
 use Rattle.pealvixen.specs.Sheets.{refused_sheet, told}
