@@ -20,17 +20,17 @@ use Rattle.job.specs.Rules.{
 use Rattle.job.proofs.Says.{refused_not_done}
 
 -- no rule of the list has this number
-unfoldable Without : ℕ → List Rule → Type 0
+unfoldable pub Without : ℕ → List Rule → Type 0
 Without m [] = Unit {0}
 Without m (r ∷ rs) = (r.number ≢ m) × Without m rs
 
-without_both : (m : ℕ) (rs ss : List Rule) → Without m rs → Without m ss → Without m (rs ++ ss)
+pub without_both : (m : ℕ) (rs ss : List Rule) → Without m rs → Without m ss → Without m (rs ++ ss)
 unfolding Without
 without_both m [] ss v w = w
 without_both m (r ∷ rs) ss v w = (v.0, without_both m rs ss v.1 w)
 
 -- so it says no refusal of this number
-without_says : (m : ℕ) (rs : List Rule) → Without m rs → (first second : ℕ) → ¬ Says rs (refused m first second)
+pub without_says : (m : ℕ) (rs : List Rule) → Without m rs → (first second : ℕ) → ¬ Says rs (refused m first second)
 unfolding Without Says
 without_says m [] w a b s = refused_not_done m a b s
 without_says m (r ∷ rs) w a b (inl s) =
@@ -38,16 +38,16 @@ without_says m (r ∷ rs) w a b (inl s) =
     w.0 (cc)
 without_says m (r ∷ rs) w a b (inr s) = without_says m rs w.1 a b s.1
 
-limits_without : (r n p : ℕ) → Without 9 (limit_rules r n p)
+pub limits_without : (r n p : ℕ) → Without 9 (limit_rules r n p)
 unfolding Without limit_rules
 limits_without r n p = ((λ e. omega arith), ((λ e. omega arith), ((λ e. omega arith), ((λ e. omega arith), tt))))
 
-size_without : (h : Handed) (r n : ℕ) → Without 9 (size_rules h r n)
+pub size_without : (h : Handed) (r n : ℕ) → Without 9 (size_rules h r n)
 unfolding Without size_rules
 size_without words r n = tt
 size_without bytes r n = ((λ e. omega arith), tt)
 
-length_without : (h : Handed) (b : ℕ) (ls : List ℕ) (ss : List (List ℕ)) → Without 9 (length_rules h b ls ss)
+pub length_without : (h : Handed) (b : ℕ) (ls : List ℕ) (ss : List (List ℕ)) → Without 9 (length_rules h b ls ss)
 unfolding Without length_rules
 length_without h b [] ss = tt
 length_without h b (l ∷ ls) [] = tt
@@ -58,7 +58,7 @@ unfolding Without word_rules
 word_without h p b s k zero = tt
 word_without h p b s k (suc count) = ((λ e. omega arith), word_without h p b s (suc k) count)
 
-read_without : (h : Handed) (p b m : ℕ) (ls : List ℕ) (ss : List (List ℕ)) → Without 9 (read_rules h p b m ls ss)
+pub read_without : (h : Handed) (p b m : ℕ) (ls : List ℕ) (ss : List (List ℕ)) → Without 9 (read_rules h p b m ls ss)
 unfolding Without read_rules
 read_without h p b zero ls ss = tt
 read_without h p b (suc m) [] ss = tt

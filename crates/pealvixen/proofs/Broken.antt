@@ -1,25 +1,40 @@
 -- A broken line's number is small, so that it has room in its place of the packed number: a sheet whose limits are
 -- kept has at most 130 lines, and no other is read behind line 1.
 -- Assumes nothing.
-use mathlib.Core.Path.{◌≡◌, sym}
-use mathlib.Core.Logic.{◌⊎◌, inl, inr}
-use mathlib.Core.List.{List, [], ◌∷◌, ◌++◌}
-use Prim.Native.Nat.{ℕ, zero, suc, ◌+◌, ◌-◌, ◌≤◌}
+use Rattle.std.proofs.Common.{
+  ◌≡◌,
+  ◌⊎◌,
+  inl,
+  inr,
+  List,
+  [],
+  ◌∷◌,
+  ◌++◌,
+  ℕ,
+  zero,
+  suc,
+  ◌+◌,
+  ◌-◌,
+  ◌≤◌,
+  arith,
+  length,
+  replicate,
+  Err,
+}
 use native.Mathlib.Decide.{dec_lt}
-use native.Mathlib.Omega.{arith}
-use lib.ListN.{length, replicate}
 use Rattle.job.specs.declared.Kind.TheVariants.{System}
-use Rattle.job.specs.Refusal.{Verdict, done, refused, Rule, Says}
-use Rattle.job.specs.Job.{Handed, words, bytes}
-use Rattle.job.specs.Rules.{limit_rules, size_rules, length_rules}
+use Rattle.job.specs.declared.Refusal.TheVariants.{Form as FormRefusal}
+use Rattle.job.specs.Refusal.{Verdict, done, refused, Rule, Says, refusal_verdict}
+use Rattle.job.specs.Job.{words, bytes}
+use Rattle.job.specs.Rules.{limit_rules}
 use Rattle.job.proofs.Says.{says_none, says_tail, says_split, refused_not_done}
 use Rattle.job.proofs.Accepted.{Limits, limits_of}
+use Rattle.job.proofs.NoLine.{without_both, without_says, limits_without, size_without, length_without}
 use Rattle.text.specs.Lines.{Form}
 use Rattle.job.specs.declared.Header.{Header}
 use Rattle.header.specs.Header.{header}
-use Rattle.sheet.specs.declared.Reading.TheVariants.{Broken}
 use Rattle.sheet.specs.Sheet.{Keeps, FirstLine}
-use Rattle.sheet.specs.Rules.{read_verdict, room_rules, open_rules, line_rules, sheet_rules}
+use Rattle.sheet.specs.Rules.{room_rules, open_rules, line_rules, sheet_rules}
 use Rattle.sheet.specs.Read.{ReadOutcome}
 
 -- what two lists say together: the first refuses, or it is silent and the second speaks
@@ -31,37 +46,6 @@ says_cases (r ∷ rs) ss v (inr s) = elim (says_cases rs ss v s.1) [
   | inl t ↦ inl (inr (s.0, t))
   | inr t ↦ inr (inr (s.0, t.0), t.1)
 ]
-
--- no rule of the list has that number
-unfoldable Apart : ℕ → List Rule → Type 0
-Apart n [] = Unit {0}
-Apart n (r ∷ rs) = (¬ (r.number ≡ n)) × Apart n rs
-
--- so the list does not refuse with it
-apart_says : (n b c : ℕ) (rs : List Rule) → Apart n rs → Says rs (refused n b c) → ⊥
-unfolding Says Apart
-apart_says n b c [] a s = refused_not_done n b c s
-apart_says n b c (r ∷ rs) a (inl s) = a.0 (let e = sym s.1 in cc)
-apart_says n b c (r ∷ rs) a (inr s) = apart_says n b c rs a.1 s.1
-
-apart_append : (n : ℕ) (rs ss : List Rule) → Apart n rs → Apart n ss → Apart n (rs ++ ss)
-unfolding Apart
-apart_append n [] ss a b = b
-apart_append n (r ∷ rs) ss a b = (a.0, apart_append n rs ss a.1 b)
-
--- the rules of lengths, of limits and of sizes are not 9
-lengths_apart : (h : Handed) (b : ℕ) (ls : List ℕ) (ss : List (List ℕ)) → Apart 9 (length_rules h b ls ss)
-unfolding Apart length_rules
-lengths_apart h b [] ss = tt
-lengths_apart h b (l ∷ ls) [] = tt
-lengths_apart h b (l ∷ ls) (s ∷ ss) = (λ e. omega arith, lengths_apart h (suc b) ls ss)
-
-limits_apart : (r n p : ℕ) → Apart 9 (limit_rules r n p ++ size_rules bytes r n)
-unfolding Apart limit_rules size_rules
-limits_apart r n p = (
-  λ e. omega arith,
-  (λ e. omega arith, (λ e. omega arith, (λ e. omega arith, (λ e. omega arith, tt)))),
-)
 
 module _ (forms : Header → List Form) (s : List ℕ) where
   -- the rules of lines from k on
@@ -79,7 +63,8 @@ module _ (forms : Header → List Form) (s : List ℕ) where
   opened_near h line (inl u) = absurd (let q = u.1 in let e : ◌≡◌ {A = ℕ} 9 10 = cc in omega arith)
   opened_near h line (inr u) = elim u.1 [
     | inl v ↦ let e : line ≡ 1 = (let q = v.1 in cc) in omega arith
-    | inr v ↦ absurd (apart_says 9 line 0 _ (limits_apart h.r h.n h.p) v.1)
+    | inr v ↦ absurd (without_says 9 _
+        (without_both 9 _ _ (limits_without h.r h.n h.p) (size_without bytes h.r h.n)) line 0 v.1)
   ]
 
   opened_limits : (h : Header) → Says (open_rules forms s h) done → Limits h.r h.n h.p
@@ -94,7 +79,7 @@ module _ (forms : Header → List Form) (s : List ℕ) where
     unfolding sheet_rules room_rules
     rules_near h line said = elim (says_cases (room_rules rooms ++ open_rules forms s h) _ _ said) [
       | inl t ↦ elim (says_cases (room_rules rooms) (open_rules forms s h) _ t) [
-        | inl u ↦ absurd (apart_says 9 line 0 _ (lengths_apart words 1 (replicate (length rooms) 2048) rooms) u)
+        | inl u ↦ absurd (without_says 9 _ (length_without words 1 (replicate (length rooms) 2048) rooms) line 0 u)
         | inr u ↦ opened_near h line u.1
       ]
       | inr t ↦
@@ -105,8 +90,8 @@ module _ (forms : Header → List Form) (s : List ℕ) where
     -- whether the text has a header or not
     pub broken_near : (decides : (g h : Header) → Keeps forms s g 1 → Keeps forms s h 1 → g ≡ h)
         {lengths : Header → List ℕ} {line : ℕ} {after : List (List ℕ)}
-        → ReadOutcome forms lengths s rooms (Broken line) after → line ≤ 132
-    unfolding read_verdict
+        → ReadOutcome forms lengths s rooms (Err (FormRefusal line)) after → line ≤ 132
+    unfolding refusal_verdict
     broken_near decides {line = line} f = elim (dec_lt line 133) [
       | yes l ↦ omega arith
       | no q ↦

@@ -1,13 +1,28 @@
 -- Sheets whose limits are kept have few lines, so that a broken line's number is small.
 -- Assumes nothing.
-use mathlib.Core.Path.{◌≡◌, refl, sym}
-use mathlib.Core.List.{List, [], ◌∷◌, ◌++◌}
-use Prim.Native.Nat.{ℕ, zero, suc, ◌+◌, ◌*◌, ◌≤◌}
+use Rattle.std.proofs.Common.{
+  ◌≡◌,
+  refl,
+  sym,
+  List,
+  [],
+  ◌∷◌,
+  ◌++◌,
+  ℕ,
+  zero,
+  suc,
+  ◌+◌,
+  ◌*◌,
+  ◌≤◌,
+  arith,
+  length,
+  length-append,
+  Result,
+}
 use native.Mathlib.Nat as N
-use native.Mathlib.Omega.{arith}
-use lib.ListN.{length, length-append}
 use Rattle.job.specs.declared.Kind.{Kind}
 use Rattle.job.specs.declared.Kind.TheVariants.{System, Basis, Equation}
+use Rattle.job.specs.declared.Refusal.{Refusal}
 use Rattle.job.specs.Job.{carried}
 use Rattle.job.proofs.Accepted.{Limits}
 use Rattle.text.specs.Lines.{Form}
@@ -15,8 +30,6 @@ use Rattle.lines.specs.Forms.{numbered, row_forms, matrix_forms}
 use Rattle.lines.proofs.Forms.{length-rows}
 use Rattle.job.specs.declared.Header.{Header}
 use Rattle.body.specs.JobLines.{signed, job_lines}
-use Rattle.sheet.specs.declared.Reading.{Reading}
-use Rattle.sheet.specs.declared.Reading.TheVariants.{Done, Refused, Broken}
 use Rattle.sheet.specs.Sheet.{Keeps}
 use Rattle.sheet.specs.JobSheet.{job_forms, job_lengths}
 use Rattle.sheet.specs.Read.{ReadOutcome}
@@ -121,17 +134,16 @@ result_few h l =
 module _ (forms : Header → List Form) (few : (h : Header) → Limits h.r h.n h.p → length (forms h) ≤ 130)
     (decides : (s : List ℕ) (g h : Header) → Keeps forms s g 1 → Keeps forms s h 1 → g ≡ h)
     {lengths : Header → List ℕ} where
-  line_fits : {s : List ℕ} {rooms after : List (List ℕ)} (x : Reading) → ReadOutcome forms lengths s rooms x after
-      → LineFits x
-  unfolding LineFits
-  line_fits (Done h) f = tt
-  line_fits (Refused a) f = tt
-  line_fits {s} {rooms} (Broken line) f = omega (arith, broken_near forms s few rooms (decides s) f)
+  line_fits : {s : List ℕ} {rooms after : List (List ℕ)} {x : Result Header Refusal}
+      → ReadOutcome forms lengths s rooms x after → LineFits x
+  line_fits {s} {rooms} f = record {
+    small = λ line e. omega (arith, broken_near forms s few rooms (decides s) (rw e at f));
+  }
 
-pub job_line_fits : {s : List ℕ} {rooms after : List (List ℕ)} (x : Reading)
+pub job_line_fits : {s : List ℕ} {rooms after : List (List ℕ)} {x : Result Header Refusal}
     → ReadOutcome job_forms job_lengths s rooms x after → LineFits x
-job_line_fits x f = line_fits job_forms job_few job_header x f
+job_line_fits = line_fits job_forms job_few job_header
 
-pub result_line_fits : {s : List ℕ} {rooms after : List (List ℕ)} (x : Reading)
+pub result_line_fits : {s : List ℕ} {rooms after : List (List ℕ)} {x : Result Header Refusal}
     → ReadOutcome result_forms result_lengths s rooms x after → LineFits x
-result_line_fits x f = line_fits result_forms result_few result_header x f
+result_line_fits = line_fits result_forms result_few result_header

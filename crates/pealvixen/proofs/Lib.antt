@@ -1,3 +1,4 @@
 pub mod Unique
 pub mod Broken
 pub mod Few
+pub mod NoLine

@@ -1,16 +1,12 @@
 -- The packed number gives the answer back; an exported job, reader or writer leaves one answer and one content of every
 -- buffer.
 -- Assumes nothing.
-use mathlib.Core.Path.{◌≡◌, sym, ap, ◌∙◌}
-use mathlib.Core.List.{List}
-use Prim.Native.Nat.{ℕ, ◌<◌}
-use native.Mathlib.Omega.{arith}
-use Rattle.job.specs.declared.Answer.{Answer}
-use Rattle.job.specs.Refusal.{done, refused, verdict_of}
+use Rattle.std.proofs.Common.{◌≡◌, sym, ap, ◌∙◌, List, ℕ, ◌<◌, arith, Result}
+use Rattle.job.specs.declared.Refusal.{Refusal}
+use Rattle.job.specs.Refusal.{done, refused, Answer, verdict_of}
 use Rattle.job.specs.Job.{Job, Buffers, Handed}
 use Rattle.job.proofs.Unique.{outcome_unique}
 use Rattle.job.specs.declared.Header.{Header}
-use Rattle.sheet.specs.declared.Reading.{Reading}
 use Rattle.sheet.specs.Read.{JobOutcome}
 use Rattle.sheet.proofs.Unique.{job_outcome_unique}
 use Rattle.result.proofs.Unique.{outcome_unique as written_unique}
@@ -45,8 +41,8 @@ packed_outcome_unique f g =
     (f.code_is ∙ ap (λ (x : Answer). packed (verdict_of x)) same.0 ∙ sym g.code_is, same.1)
 
 -- an exported reader leaves one answer and one content of every room, as the reader does
-module _ {Leaves : Reading → List (List ℕ) → Type 0}
-    (one : (x y : Reading) (a b : List (List ℕ)) → Leaves x a → Leaves y b → (x ≡ y) × (a ≡ b)) where
+module _ {Leaves : Result Header Refusal → List (List ℕ) → Type 0}
+    (one : (x y : Result Header Refusal) (a b : List (List ℕ)) → Leaves x a → Leaves y b → (x ≡ y) × (a ≡ b)) where
   pub read_told_unique : {x y : SheetRead} {a b : List (List ℕ)} → ReadTold Leaves x a → ReadTold Leaves y b
       → (x ≡ y) × (a ≡ b)
   read_told_unique f g =

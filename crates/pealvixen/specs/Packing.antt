@@ -2,8 +2,7 @@
 -- done.
 -- Assumes nothing.
 use Rattle.std.specs.Prelude.{◌≡◌, refl, ℕ, ◌+◌, ◌*◌}
-use Rattle.job.specs.declared.Answer.{Answer}
-use Rattle.job.specs.Refusal.{Verdict, done, refused, verdict_of}
+use Rattle.job.specs.Refusal.{Verdict, done, refused, Answer, verdict_of}
 use Rattle.job.specs.Job.{Job, Buffers, Handed}
 use Rattle.job.specs.Outcome.{Outcome}
 

@@ -1,11 +1,9 @@
--- What the parts of the exported readers ask.
+-- What the parts of the exported functions ask.
 -- Assumes nothing.
-use Rattle.std.specs.Prelude.{◌<◌}
-use Rattle.sheet.specs.declared.Reading.{Reading}
-use Rattle.sheet.specs.declared.Reading.TheVariants.{Done, Refused, Broken}
+use Rattle.std.specs.Prelude.{◌≡◌, ℕ, ◌<◌, Result, Err}
+use Rattle.job.specs.declared.Refusal.{Refusal}
+use Rattle.job.specs.declared.Refusal.TheVariants.{Form}
 
 -- a broken line's number has room in its place of the packed number
-unfoldable pub LineFits : Reading → Type 0
-LineFits (Done h) = Unit {0}
-LineFits (Refused a) = Unit {0}
-LineFits (Broken line) = line < 16777216
+pub record LineFits {A : Type 0} (x : Result A Refusal) : Type 0 where
+  pub small : (line : ℕ) → x ≡ Err (Form line) → line < 16777216

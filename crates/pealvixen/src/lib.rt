@@ -2,28 +2,50 @@
 // answer comes back as one number, `packed` of specs/.
 #![tactic(auto)]
 
-ghost use Rattle.std.specs.Prelude.{◌≡◌, [], ◌∷◌};
-ghost use Rattle.job.specs.Refusal.{verdict_of};
+ghost use Rattle.std.specs.Prelude.{◌≡◌, [], ◌∷◌, ℕ, ◌<◌};
+ghost use Rattle.job.specs.Refusal.{refusal_verdict, verdict_of};
+ghost use Rattle.job.specs.declared.Refusal.TheVariants.{Form};
 ghost use Rattle.job.specs.Job.{buffers, words, bytes};
 ghost use Rattle.job.specs.declared.Kind.TheVariants.{System, Basis, Equation};
 ghost use Rattle.refusal.specs.Checked.{job_of};
 ghost use Rattle.header.specs.Header.{header};
 ghost use Rattle.sheet.specs.Read.{JobOutcome};
 ghost use Rattle.reread.specs.Read.{ResultOutcome};
+ghost use Rattle.result.specs.Print.{places_of};
 ghost use Rattle.pealvixen.specs.Packing.{packed, PackedOutcome};
-ghost use Rattle.pealvixen.specs.Sheets.{kind_number, refused_sheet, told, told_written, ReadTold, WriteTold};
+ghost use Rattle.pealvixen.specs.Sheets.{kind_number, told, told_written, ReadTold, WriteTold};
 ghost use Rattle.pealvixen.specs.Steps.{LineFits};
 
-use job::{Answer, Kind};
-use result::Written;
-use sheet::Reading;
+use job::{Header, Kind, Refusal};
+use result::Places;
 
-// The answer as one number.
-fn pack(a: Answer) -> u64
-    ensures { result ≡ packed (verdict_of a) }
+// The first place of a refusal, which is small: a line's number as asked, and a buffer's as a byte, which `Places` does
+// not show.
+#[tactic(auto, unfolding(result::specs::Print::places_of, job::specs::Refusal::refusal_verdict))]
+fn first_place(refusal: Refusal) -> u64
+    requires { (line : ℕ) → refusal ≡ Form line → line < 16777216 }
+    ensures is { result ≡ (places_of (refusal_verdict refusal)).1 }
+    ensures near { result < 16777216 }
 {
-    let q = result::place(a);
-    q.0 as u64 + 256 * (q.1 as u64) + 4294967296 * (q.2 as u64)
+    match refusal {
+        Refusal::Length { buffer } | Refusal::Word { buffer, .. } => u64::from(buffer),
+        Refusal::Form { line } => line as u64,
+        _ => 0,
+    }
+}
+
+// The answer as one number, whatever it carries when it is done.
+fn pack<T: Copy>(answer: Result<T, Refusal>) -> u64
+    requires { LineFits answer }
+    ensures { result ≡ packed (verdict_of answer) }
+{
+    match answer {
+        Ok(_) => 0,
+        Err(refusal) => {
+            let Places(number, _, second) = Places::from(refusal);
+            u64::from(number) + 256 * first_place(refusal) + 4294967296 * u64::from(second)
+        }
+    }
 }
 
 // The system job by halving.
@@ -43,8 +65,7 @@ pub fn pealvixen_system_halving(
         result
         (buffers a.now b.now v.now y.new work.new) }
 {
-    let answer = halving::system(r, n, p, a, b, v, y, work);
-    pack(answer)
+    pack(halving::system(r, n, p, a, b, v, y, work))
 }
 
 // The system job by Newton.
@@ -64,8 +85,7 @@ pub fn pealvixen_system_newton(
         result
         (buffers a.now b.now v.now y.new work.new) }
 {
-    let answer = newton::system(r, n, p, a, b, v, y, work);
-    pack(answer)
+    pack(newton::system(r, n, p, a, b, v, y, work))
 }
 
 // The basis job: a basis and its inverse.
@@ -85,8 +105,7 @@ pub fn pealvixen_basis(
         result
         (buffers a.now y0.now y.new z.new work.new) }
 {
-    let answer = newton::basis(r, n, p, a, y0, y, z, work);
-    pack(answer)
+    pack(newton::basis(r, n, p, a, y0, y, z, work))
 }
 
 // The equation job by halving.
@@ -106,8 +125,7 @@ pub fn pealvixen_equation_halving(
         result
         (buffers a.now b.now start.now y.new work.new) }
 {
-    let answer = equation::by_halving(r, n, p, a, b, start, y, work);
-    pack(answer)
+    pack(equation::by_halving(r, n, p, a, b, start, y, work))
 }
 
 // The equation job by Newton.
@@ -127,8 +145,7 @@ pub fn pealvixen_equation_newton(
         result
         (buffers a.now b.now start.now y.new work.new) }
 {
-    let answer = equation::by_newton(r, n, p, a, b, start, y, work);
-    pack(answer)
+    pack(equation::by_newton(r, n, p, a, b, start, y, work))
 }
 
 // The system job by halving, on bytes.
@@ -148,8 +165,7 @@ pub fn pealvixen_system_halving_bytes(
         result
         (buffers a.now b.now v.now y.new work.new) }
 {
-    let answer = bytejobs::system_halving(r, n, p, a, b, v, y, work);
-    pack(answer)
+    pack(bytejobs::system_halving(r, n, p, a, b, v, y, work))
 }
 
 // The system job by Newton, on bytes.
@@ -169,8 +185,7 @@ pub fn pealvixen_system_newton_bytes(
         result
         (buffers a.now b.now v.now y.new work.new) }
 {
-    let answer = bytejobs::system_newton(r, n, p, a, b, v, y, work);
-    pack(answer)
+    pack(bytejobs::system_newton(r, n, p, a, b, v, y, work))
 }
 
 // The basis job, on bytes.
@@ -190,8 +205,7 @@ pub fn pealvixen_basis_bytes(
         result
         (buffers a.now y0.now y.new z.new work.new) }
 {
-    let answer = bytejobs::basis(r, n, p, a, y0, y, z, work);
-    pack(answer)
+    pack(bytejobs::basis(r, n, p, a, y0, y, z, work))
 }
 
 // The equation job by halving, on bytes.
@@ -211,8 +225,7 @@ pub fn pealvixen_equation_halving_bytes(
         result
         (buffers a.now b.now start.now y.new work.new) }
 {
-    let answer = bytejobs::equation_halving(r, n, p, a, b, start, y, work);
-    pack(answer)
+    pack(bytejobs::equation_halving(r, n, p, a, b, start, y, work))
 }
 
 // The equation job by Newton, on bytes.
@@ -232,8 +245,7 @@ pub fn pealvixen_equation_newton_bytes(
         result
         (buffers a.now b.now start.now y.new work.new) }
 {
-    let answer = bytejobs::equation_newton(r, n, p, a, b, start, y, work);
-    pack(answer)
+    pack(bytejobs::equation_newton(r, n, p, a, b, start, y, work))
 }
 
 // What a reader of sheets tells: the answer as one number, and what line 1 says, or zeros where the sheet is refused.
@@ -247,7 +259,8 @@ pub struct SheetRead {
     pub p: u64,
 }
 
-// The number of a kind.
+// The number of a kind, as the C interface fixes it.
+#[tactic(auto, unfolding(crate::specs::Sheets::kind_number))]
 fn number_of(kind: Kind) -> u64
     ensures { result ≡ kind_number kind }
 {
@@ -258,37 +271,27 @@ fn number_of(kind: Kind) -> u64
     }
 }
 
-// A refused sheet.
-fn refuse_sheet(answer: u64) -> SheetRead
-    ensures { result ≡ refused_sheet answer }
-{
-    SheetRead {
-        answer,
-        kind: 0,
-        r: 0,
-        n: 0,
-        p: 0,
-    }
-}
-
 // What a reader answers, told in numbers.
-fn tell(x: Reading) -> SheetRead
+fn tell(x: Result<Header, Refusal>) -> SheetRead
     requires { LineFits x }
     ensures { result ≡ told x }
 {
+    let answer = pack(x);
     match x {
-        Reading::Done(h) => {
-            let kind = h.kind;
-            SheetRead {
-                answer: 0,
-                kind: number_of(kind),
-                r: h.r,
-                n: h.n,
-                p: h.p,
-            }
-        }
-        Reading::Refused(a) => refuse_sheet(pack(a)),
-        Reading::Broken(line) => refuse_sheet(9 + 256 * (line as u64)),
+        Ok(Header { kind, r, n, p }) => SheetRead {
+            answer,
+            kind: number_of(kind),
+            r,
+            n,
+            p,
+        },
+        Err(_) => SheetRead {
+            answer,
+            kind: 0,
+            r: 0,
+            n: 0,
+            p: 0,
+        },
     }
 }
 
@@ -302,8 +305,7 @@ pub fn pealvixen_read_job(
     ensures { ReadTold (JobOutcome text.now (one.old ∷ two.old ∷ three.old ∷ [])) result
         (one.new ∷ two.new ∷ three.new ∷ []) }
 {
-    let reading = sheet::read_job(text, one, two, three);
-    tell(reading)
+    tell(sheet::read_job(text, one, two, three))
 }
 
 // Reads a result sheet into two rooms.
@@ -311,8 +313,7 @@ pub fn pealvixen_read_result(text: &[u8], one: &mut [u32], two: &mut [u32]) -> S
     ensures { ReadTold (ResultOutcome text.now (one.old ∷ two.old ∷ [])) result
         (one.new ∷ two.new ∷ []) }
 {
-    let reading = reread::read_result(text, one, two);
-    tell(reading)
+    tell(reread::read_result(text, one, two))
 }
 
 // What a writer of sheets tells: the answer as one number, and the text's length in bytes, or 0 where it is refused.
@@ -324,18 +325,13 @@ pub struct SheetWritten {
 }
 
 // What a writer answers, told in numbers.
-fn tell_written(w: Written) -> SheetWritten
+fn tell_written(w: Result<usize, Refusal>) -> SheetWritten
+    requires { LineFits w }
     ensures { result ≡ told_written w }
 {
-    match w {
-        Written::Done { length } => SheetWritten {
-            answer: 0,
-            length: length as u64,
-        },
-        Written::Refused(a) => SheetWritten {
-            answer: pack(a),
-            length: 0,
-        },
+    SheetWritten {
+        answer: pack(w),
+        length: w.unwrap_or(0) as u64,
     }
 }
 
@@ -344,8 +340,7 @@ pub fn pealvixen_write_system(r: u64, n: u64, p: u64, y: &[u32], text: &mut [u8]
     ensures { WriteTold (header System r n p) (y.now ∷ [])
         text.old result text.new }
 {
-    let written = result::write_system(r, n, p, y, text);
-    tell_written(written)
+    tell_written(result::write_system(r, n, p, y, text))
 }
 
 // Writes the result sheet of an equation.
@@ -353,8 +348,7 @@ pub fn pealvixen_write_equation(r: u64, n: u64, p: u64, y: &[u32], text: &mut [u
     ensures { WriteTold (header Equation r n p) (y.now ∷ [])
         text.old result text.new }
 {
-    let written = result::write_equation(r, n, p, y, text);
-    tell_written(written)
+    tell_written(result::write_equation(r, n, p, y, text))
 }
 
 // Writes the result sheet of a basis.
@@ -369,6 +363,5 @@ pub fn pealvixen_write_basis(
     ensures { WriteTold (header Basis r n p) (y.now ∷ z.now ∷ [])
         text.old result text.new }
 {
-    let written = result::write_basis(r, n, p, y, z, text);
-    tell_written(written)
+    tell_written(result::write_basis(r, n, p, y, z, text))
 }

@@ -16,7 +16,8 @@ use Rattle.result.proofs.Checks.{vector_silent, basis_silent}
 use Rattle.reply.specs.Reply.{printed_of}
 
 -- a buffer of results has no word that is p or more
-filled-below : {p count : ℕ} {before after : List ℕ} → Filled words p count before after → WordsBelow words p count after
+filled-below
+    : {p count : ℕ} {before after : List ℕ} → Filled words p count before after → WordsBelow words p count after
 filled-below f = record { below = f.below }
 
 module _ (r n p : ℕ) (lent after : Buffers) where

@@ -39,8 +39,8 @@ pub record Told (h : Header) (rooms : List (List ℕ)) (before after : List ℕ)
   pub called : Called h rooms text
   pub put : Put 0 text before after e
 
--- what comes of a text or of its job, where P says of a buffer and a length what is printed: it stands there, or it does
--- as soon as the line of the refusal is put there
+-- what comes of a text or of its job, where P says of a buffer and a length what is printed: it stands there, or it
+-- does as soon as the line of the refusal is put there
 abbrev pub Comes : (List ℕ → ℕ → Type 0) → Result ℕ Refusal → List ℕ → Type 0
 Comes P (Ok length) after = P after length
 Comes P (Err refusal) after =

@@ -1,21 +1,19 @@
--- `pealvixen::tell_written` meets its contract, answer by answer.
+-- `pealvixen::tell_written` meets its contract: the answer packed, and the length, or 0.
 -- Assumes nothing.
-use mathlib.Core.Path.{sym, ap, ◌∙◌}
-use Prim.Native.Nat.{ℕ}
-use Rattle.result.specs.Write.{written_verdict}
-use Rattle.pealvixen.specs.declared.SheetWritten.{SheetWritten}
-use Rattle.pealvixen.specs.Packing.{packed}
+use Rattle.std.proofs.Common.{◌≡◌, refl, ℕ, Result, Ok, Err}
+use Rattle.std.specs.Result.{result_unwrap_or}
+use Rattle.job.specs.declared.Refusal.{Refusal}
 use Rattle.pealvixen.specs.Sheets.{length_told, told_written}
 use Rattle.pealvixen.proofs.tell_written.Goals as goal
 
--- a refusal with a packed number
-abbrev refusal_of : ℕ → SheetWritten
-refusal_of code = record { answer = code; length = 0 }
+length_is : (w : Result ℕ Refusal) → result_unwrap_or w 0 ≡ length_told w
+unfolding length_told
+length_is (Ok length) = refl
+length_is (Err refusal) = refl
 
-pub returns-in-Done : goal.returns-in-Done
-unfolding packed written_verdict length_told told_written
-returns-in-Done c = sym (ap told_written c.in-Done.is)
-
-pub returns-in-Refused : goal.returns-in-Refused
-unfolding written_verdict length_told told_written
-returns-in-Refused c = ap refusal_of c.pack.ensures ∙ sym (ap told_written c.in-Refused.is)
+pub returns : goal.returns
+unfolding told_written
+returns c =
+    let packs = c.pack.ensures in
+    let length = c.unwrap_or.ensures in
+    rw (packs, length, length_is c.args.w)
