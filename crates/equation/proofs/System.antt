@@ -13,6 +13,9 @@ use Rattle.matrix.specs.Layout.{Below, Written}
 use Rattle.matrix.specs.Product.{first_terms}
 use Rattle.matrix.proofs.Written.{written_below}
 use Rattle.division.specs.Division.{Divisible, Divided}
+use Rattle.division.proofs.Parts.{divisible_parts, divided_parts}
+use Rattle.residue.proofs.Parts.{Part, part_of, whole_of}
+use borrow.Rule.Slice.PartMut.{mid_of}
 use Rattle.newton.specs.Basis.{Spreadable, spread_term, units}
 use Rattle.newton.proofs.Matrices.{units-at, units_small}
 use Rattle.halving.proofs.Rows.{row_end}
@@ -120,6 +123,21 @@ module _ {q : Modulus} {r n : ℕ} {a b w : List ℕ} {at side free : ℕ} (give
           apart = given.places.side_scratch;
           below = below;
         }
+
+    -- the coefficients of a_r as the part that is handed on
+    abbrev lead_series : List ℕ
+    lead_series = mid_of (r * n) (r * n + n - r * n) a
+
+    lead_part : Part a (r * n) n lead_series
+    lead_part = part_of a refl (omega (arith, given.one))
+
+    pub side_parts : {lead : ℕ} {v : List ℕ} → Divisible q lead a (r * n) b 0 n v side free
+        → Divisible q lead lead_series 0 b 0 (length lead_series) v side free × (length b ≡ length lead_series)
+    side_parts = divisible_parts lead_part (whole_of given.two)
+
+    pub side_divided : {v z : List ℕ} → Divided q.p false lead_series 0 b 0 (length lead_series) side free v z
+        → Divided q.p false a (r * n) b 0 n side free v z
+    side_divided = divided_parts lead_part (whole_of given.two)
 
     module _ {w₁ w₂ z : List ℕ}
         (ones : Written (r - 1) ((r + 1) * n) (first_terms (at + n) 1) (spread_term units 0) w w₁)

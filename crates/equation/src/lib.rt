@@ -21,8 +21,10 @@ fn divide_row(g: Shape, lead: u32, a: &[u32], w: &mut [u32], row: usize, free: u
     ensures { RowDivided g.q.p g.r g.n a.now row free g.r w.old w.new }
 {
     let Shape { q, r, n } = g;
+    let last = r * n;
     for j in 0..r {
-        division::divide(q, lead, true, a, r * n, a, j * n, n, w, row + j * n, free);
+        let at = j * n;
+        division::divide(q, lead, true, &a[last..last + n], &a[at..at + n], w, row + at, free);
     }
 }
 
@@ -40,7 +42,8 @@ pub fn translate(g: Shape, a: &[u32], b: &[u32], w: &mut [u32], at: usize, side:
     let lead = inverse::invert(a[g.r * g.n], g.q.p as u32);
     newton::spread(last, (g.r + 1) * g.n, &ones, 0, at + g.n, w);
     divide_row(g, lead, a, w, at + last * g.r * g.n, free);
-    division::divide(g.q, lead, false, a, g.r * g.n, b, 0, g.n, w, side, free);
+    let from = g.r * g.n;
+    division::divide(g.q, lead, false, &a[from..from + g.n], b, w, side, free);
 }
 
 // Hands the n words from `from` on over to y, and clears the room that they stand in.

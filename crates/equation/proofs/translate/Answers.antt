@@ -1,7 +1,7 @@
 -- `equation::translate` meets its contract: the ones, the last row and the right side are written one after the other.
 -- Assumes nothing.
 use Rattle.std.proofs.Common.{◌∙◌, ◌+◌, ◌-◌, ◌*◌, ◌≤◌, arith, length}
-use Rattle.equation.proofs.System.{ones_spread, ones_below, row_inside, row_dividable, side_divisible, translated}
+use Rattle.equation.proofs.System.{ones_spread, ones_below, row_inside, row_dividable, side_divisible, side_parts, side_divided, translated}
 use Rattle.equation.proofs.translate.Goals as goal
 use Rattle.equation.proofs.translate.Goals.{After-spread}
 
@@ -23,11 +23,11 @@ divide_row-requires c =
 pub divide-requires : goal.divide-requires
 divide-requires c =
     let start = c.requires in
-    side_divisible start c.invert-lead.ensures
+    side_parts start
+    (side_divisible start c.invert-lead.ensures
     (c.divide_row.auto.w ∙ c.spread.auto.w)
-    (c.divide_row.ensures.below (ones_below start c.spread.ensures))
+    (c.divide_row.ensures.below (ones_below start c.spread.ensures)))
 
 pub returns : goal.returns
 returns c =
-    translated c.requires c.spread.ensures c.divide_row.ensures
-    c.divide.ensures
+    translated c.requires c.spread.ensures c.divide_row.ensures (side_divided c.requires c.divide.ensures)
