@@ -39,7 +39,7 @@ pub fn encode(w: &[u32], s: &mut [u8])
     }
 }
 
-// Puts 0 into every byte.
+// Puts 0 into every byte. One for words and bytes, with room's, would be no plainer than this line.
 pub fn clear(s: &mut [u8])
     ensures { Zeros s.new }
 {

@@ -24,7 +24,8 @@ use cursor::Cursor;
 use job::{Header, Kind, Refusal};
 use lines::Numbers;
 
-// Line 1 of a sheet of one of the three kinds, each of which has its own first fields.
+// Line 1 of a sheet of one of the three kinds, each of which has its own first fields. Not by `or_else`: a proof is told
+// nothing of what its closure answers.
 pub fn open_kinds(
     s: &[u8],
     system: &[u8],
@@ -63,7 +64,8 @@ pub fn finish(s: &[u8], d: Cursor) -> Result<(), Refusal>
     Ok(())
 }
 
-// The residues of the numbers w, from the room's first word on.
+// The residues of the numbers w, from the room's first word on. By places: of a room that goes by `iter_mut` beside the
+// numbers a proof is told too little.
 pub fn fill(p: u32, w: &[i64], room: &mut [u32])
     requires { (0 < p) × (length w.now ≤ length room.old) }
     ensures { Filled p (nth w.now) 0 (length w.now) room.old room.new }
