@@ -1,7 +1,8 @@
 -- `equation::translate` meets its contract: the ones, the last row and the right side are written one after the other.
 -- Assumes nothing.
 use Rattle.std.proofs.Common.{◌∙◌, ◌+◌, ◌-◌, ◌*◌, ◌≤◌, arith, length}
-use Rattle.equation.proofs.System.{ones_spread, ones_below, row_inside, row_dividable, side_divisible, side_parts, side_divided, translated}
+use Rattle.equation.proofs.System.{ones_spread, ones_below, row_inside, row_dividable, side_divisible, side_parts}
+use Rattle.equation.proofs.System.{side_divided, translated}
 use Rattle.equation.proofs.translate.Goals as goal
 use Rattle.equation.proofs.translate.Goals.{After-spread}
 
