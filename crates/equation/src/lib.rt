@@ -24,7 +24,16 @@ fn divide_row(g: Shape, lead: u32, a: &[u32], w: &mut [u32], row: usize, free: u
     let last = r * n;
     for j in 0..r {
         let at = j * n;
-        division::divide(q, lead, true, &a[last..last + n], &a[at..at + n], w, row + at, free);
+        division::divide(
+            q,
+            lead,
+            true,
+            &a[last..last + n],
+            &a[at..at + n],
+            w,
+            row + at,
+            free,
+        );
     }
 }
 

@@ -24,8 +24,8 @@ use cursor::Cursor;
 use job::{Header, Kind, Refusal};
 use lines::Numbers;
 
-// Line 1 of a sheet of one of the three kinds, each of which has its own first fields. Not by `or_else`: a proof is told
-// nothing of what its closure answers.
+// Line 1 of a sheet of one of the three kinds, each of which has its own first fields. Not by `or_else`: a proof
+// is told nothing of what its closure answers.
 pub fn open_kinds(
     s: &[u8],
     system: &[u8],

@@ -68,7 +68,8 @@ make_modulus-q-requires c =
 pub run_basis-requires : goal.run_basis-requires
 unfolding jobAt
 run_basis-requires c =
-    ready (admitted (goal.at.run_basis-requires c).In_ok-check_words) (inverted (goal.at.run_basis-requires c).In_ok-map_err)
+    let at = goal.at.run_basis-requires c in
+    ready (admitted at.In_ok-check_words) (inverted at.In_ok-map_err)
     c.make_modulus-q.ensures (c.invert_start.auto.s ∙ length-replicate {A = ℕ} 128 0)
 
 pub returns : goal.returns

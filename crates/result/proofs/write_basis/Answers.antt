@@ -106,11 +106,10 @@ put_basis-requires c =
     let known = long (goal.at.put_basis-requires c).In_ok-check_lengths in
     let first = basis_first a.r a.n a.p a.y.now a.z.now a.text.now known in
     let second = basis_second a.r a.n a.p a.y.now a.z.now a.text.now known in
-    let whole = basis_whole a.r a.n a.p a.y.now a.z.now a.text.now known in
-    (
+    let whole = basis_whole a.r a.n a.p a.y.now a.z.now a.text.now known in (
       refl,
       basis_ready a.r a.n a.p c.in_ok-check_small.ensures.says first second whole c.in_ok-check_buffer.ensures.says
-      c.in_ok-check_buffer-2.ensures.says,
+          c.in_ok-check_buffer-2.ensures.says,
     )
 
 pub returns : goal.returns

@@ -43,7 +43,8 @@ returns-in_err-check_lengths c =
     let a = c.args in
     let back = c.from_residual-in_err-check_lengths in
     let p = err_from_is_err_and back.result back.ensures.1 in
-    let said = vector_exact a.h.kind a.h.r a.h.n a.h.p a.y.now a.text.now a.rows c.requires c.in_err-check_lengths.ensures in
+    let said = vector_exact a.h.kind a.h.r a.h.n a.h.p a.y.now a.text.now a.rows
+    c.requires c.in_err-check_lengths.ensures in
     rw (p.1, p.2) (exact_refuses _ _ _ c.in_ok-check_small.ensures said)
 
 -- 5 is silent
@@ -65,7 +66,8 @@ check_buffer-requires c =
     let a = c.args in
     let at = goal.at.check_buffer-requires c in
     let small = few at.In_ok-check_small in
-    let same = vector_length a.h.kind a.h.r a.h.n a.h.p a.y.now a.text.now a.rows c.requires (long at.In_ok-check_lengths) in
+    let same = vector_length a.h.kind a.h.r a.h.n a.h.p a.y.now a.text.now a.rows
+    c.requires (long at.In_ok-check_lengths) in
     record { few = omega arith; within = omega arith }
 
 pub returns-in_err-check_buffer : goal.returns-in_err-check_buffer
@@ -74,7 +76,8 @@ returns-in_err-check_buffer c =
     let back = c.from_residual-in_err-check_buffer in
     let p = err_from_is_err_and back.result back.ensures.1 in
     let known = long (goal.at.returns-in_err-check_buffer c).In_ok-check_lengths in
-    let said = vector_below a.h.kind a.h.r a.h.n a.h.p a.y.now a.text.now a.rows c.requires c.in_err-check_buffer.ensures in
+    let said = vector_below a.h.kind a.h.r a.h.n a.h.p a.y.now a.text.now a.rows
+    c.requires c.in_err-check_buffer.ensures in
     rw (p.1, p.2) (below_refuses _ _ _ c.in_ok-check_small.ensures known said)
 
 pub put_vector-requires : goal.put_vector-requires
@@ -90,5 +93,6 @@ pub returns : goal.returns
 returns c =
     let a = c.args in
     let known = long (goal.at.returns c).In_ok-check_lengths in
-    let said = vector_below a.h.kind a.h.r a.h.n a.h.p a.y.now a.text.now a.rows c.requires c.in_ok-check_buffer.ensures in
+    let said = vector_below a.h.kind a.h.r a.h.n a.h.p a.y.now a.text.now a.rows
+    c.requires c.in_ok-check_buffer.ensures in
     sheet_written _ _ _ c.in_ok-check_small.ensures known said c.put_vector.ensures
