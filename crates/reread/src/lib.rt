@@ -84,8 +84,7 @@ fn read_body(s: &[u8], h: Header, c: Cursor, w: &mut [i64]) -> Result<(), Refusa
         low: (h.p - 1) / 2,
         high: h.p / 2,
     };
-    let d = read_lines(s, c, kind, h.r as usize, series, w)?;
-    sheet::finish(s, d)
+    sheet::finish(s, read_lines(s, c, kind, h.r as usize, series, w))
 }
 
 // The rooms, each filled by the next numbers.

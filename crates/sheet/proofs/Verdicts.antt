@@ -25,6 +25,7 @@ use Rattle.std.proofs.Common.{
   drop_of_length-le,
   length-drop,
   take-take,
+  Result,
   Ok,
   Err,
 }
@@ -35,12 +36,13 @@ use Rattle.text.specs.Lines.{Form, total, Begins}
 use Rattle.text.proofs.Lines.{begins_append, begins_split, begins_rest, begins_same, begins_as}
 use Rattle.cursor.specs.declared.Cursor.{Cursor}
 use Rattle.job.specs.declared.Refusal.TheVariants.{Form as FormRefusal}
-use Rattle.lines.specs.Steps.{nth, Passed, Breaks}
+use Rattle.lines.specs.Steps.{nth, Passed, Breaks, Read}
+use Rattle.lines.specs.declared.BrokenLine.{BrokenLine}
 use Rattle.job.specs.declared.Header.{Header}
 use Rattle.header.specs.Header.{header_form}
 use Rattle.sheet.specs.Sheet.{Sheet, Keeps}
 use Rattle.sheet.specs.Rules.{line_rules}
-use Rattle.sheet.specs.Parts.{Closing}
+use Rattle.sheet.specs.Parts.{Inside, Closing}
 use Rattle.header.specs.Opened.{Opens}
 
 -- a text that begins with some lines begins with the first of them
@@ -147,11 +149,30 @@ module _ (forms : Header → List Form) {lead s : List ℕ} {h : Header} {c : Cu
         let none : drop d.byte s ≡ [] = drop_of_length-le s {i = d.byte} l in
         record { short = o.short; whole = rw e (joined (rw none at p.begins)) }
 
--- where the lines are passed, for every sort
-module _ {s : List ℕ} {d : Cursor} where
-  pub close_extra : d.byte < length s → Closing s d (Err (FormRefusal (d.line + 1)))
-  unfolding refusal_verdict
-  close_extra l = record { bodied = λ forms lead h c fs old new o q p. extra_says forms o q p l }
+-- what was read is within the text
+pub read_inside : (s : List ℕ) (c : Cursor) (fs : List Form) (old new : List ℤ) (t : Result Cursor BrokenLine)
+    → Read s c fs 0 old new t → Inside s t
+read_inside s c fs old new (Ok d) r = r.placed
+read_inside s c fs old new (Err b) r = tt
 
-  pub close_whole : length s ≤ d.byte → Closing s d (Ok tt)
-  close_whole l = record { bodied = λ forms lead h c fs old new o q p. whole_sheet forms o q p l }
+-- what was read, for every sort
+module _ {s : List ℕ} {t : Result Cursor BrokenLine} where
+  pub close_extra : {d : Cursor} → t ≡ Ok d → d.byte < length s → Closing s t (Err (FormRefusal (d.line + 1)))
+  unfolding refusal_verdict
+  close_extra e l = record {
+    bodied = λ forms lead h c fs old new o q r.
+        extra_says forms o q (subst (λ (x : Result Cursor BrokenLine). Read s c fs 0 old new x) e r) l;
+  }
+
+  pub close_whole : {d : Cursor} → t ≡ Ok d → length s ≤ d.byte → Closing s t (Ok tt)
+  close_whole e l = record {
+    bodied = λ forms lead h c fs old new o q r.
+        whole_sheet forms o q (subst (λ (x : Result Cursor BrokenLine). Read s c fs 0 old new x) e r) l;
+  }
+
+  pub close_broken : {b : BrokenLine} → t ≡ Err b → Closing s t (Err (FormRefusal b.line))
+  unfolding refusal_verdict
+  close_broken e = record {
+    bodied = λ forms lead h c fs old new o q r.
+        broken-says forms o q (subst (λ (x : Result Cursor BrokenLine). Read s c fs 0 old new x) e r);
+  }

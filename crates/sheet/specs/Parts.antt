@@ -27,7 +27,8 @@ use Rattle.job.specs.declared.Refusal.{Refusal}
 use Rattle.job.specs.Refusal.{done, refused, Says, refusal_verdict, Answer, verdict_of}
 use Rattle.text.specs.Lines.{Form}
 use Rattle.cursor.specs.declared.Cursor.{Cursor}
-use Rattle.lines.specs.Steps.{nth, Passed}
+use Rattle.lines.specs.Steps.{nth, Placed, Read}
+use Rattle.lines.specs.declared.BrokenLine.{BrokenLine}
 use Rattle.job.specs.declared.Header.{Header}
 use Rattle.header.specs.Header.{header_form}
 use Rattle.header.specs.Opened.{Opens}
@@ -67,15 +68,20 @@ pub record Starting (s : List ℕ) (o : Option (Header × Cursor)) (x : Result (
   pub started : (forms : Header → List Form) (lead : Kind → List ℕ) → Led forms lead → Opened forms lead s o
       → Started forms lead s x
 
+-- the place behind lines is within the text
+abbrev pub Inside : List ℕ → Result Cursor BrokenLine → Type 0
+Inside s (Ok d) = Placed s d
+Inside s (Err b) = Unit {0}
+
 -- the text is a whole sheet with these numbers, or it is refused, broken at a line
 abbrev pub Bodied : (Header → List Form) → List ℕ → Header → List ℤ → Answer → Type 0
 Bodied forms s h w (Ok a) = Sheet forms s h (nth w)
 Bodied forms s h w (Err x) = Says (line_rules forms s h 2 (length (forms h) - 1)) (refusal_verdict x)
 
--- so for every sort, where the lines behind line 1 are passed, and d is the place behind them
-pub record Closing (s : List ℕ) (d : Cursor) (b : Answer) : Type 0 where
+-- so for every sort, where the lines behind line 1 are what was read
+pub record Closing (s : List ℕ) (t : Result Cursor BrokenLine) (b : Answer) : Type 0 where
   pub bodied : (forms : Header → List Form) (lead : List ℕ) (h : Header) (c : Cursor) (fs : List Form)
-      (old new : List ℤ) → Opens lead s h c → forms h ≡ header_form lead h ∷ fs → Passed s c fs 0 old new d
+      (old new : List ℤ) → Opens lead s h c → forms h ≡ header_form lead h ∷ fs → Read s c fs 0 old new t
       → Bodied forms s h new b
 
 -- behind a header that nothing refuses: the verdict of the remaining lines, and what is left in the rooms

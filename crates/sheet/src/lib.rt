@@ -2,7 +2,7 @@
 #![tactic(auto)]
 
 ghost use Rattle.std.specs.Prelude.{[], ◌∷◌, ◌+◌, ◌≤◌, ◌<◌, length};
-ghost use Rattle.lines.specs.Steps.{nth, Placed};
+ghost use Rattle.lines.specs.Steps.{nth};
 ghost use Rattle.header.specs.Header.{word_of};
 ghost use Rattle.body.specs.Parts.{Measured};
 ghost use Rattle.sheet.specs.JobSheet.{job_forms, job_lengths};
@@ -12,6 +12,7 @@ ghost use Rattle.sheet.specs.Parts.{
   Entered,
   OpenedKinds,
   Starting,
+  Inside,
   Bodied,
   Closing,
   Finished,
@@ -22,7 +23,7 @@ ghost use Rattle.sheet.specs.Parts.{
 use body::Lengths;
 use cursor::Cursor;
 use job::{Header, Kind, Refusal};
-use lines::Numbers;
+use lines::{BrokenLine, Numbers};
 
 // Line 1 of a sheet of one of the three kinds, each of which has its own first fields. Not by `or_else`: a proof
 // is told nothing of what its closure answers.
@@ -53,11 +54,12 @@ pub fn begin(s: &[u8], opening: Option<(Header, Cursor)>) -> Result<(Header, Cur
     Ok((h, c))
 }
 
-// The text ends at the place behind the lines that were read, or the next line is broken.
-pub fn finish(s: &[u8], d: Cursor) -> Result<(), Refusal>
-    requires { Placed s.now d }
-    ensures { Closing s.now d result }
+// The text ends behind the lines that were read, or a line is broken: one of them, or the next.
+pub fn finish(s: &[u8], lines: Result<Cursor, BrokenLine>) -> Result<(), Refusal>
+    requires { Inside s.now lines }
+    ensures { Closing s.now lines result }
 {
+    let d = lines?;
     if d.byte < s.len() {
         return Err(Refusal::Form { line: d.line + 1 });
     }
@@ -107,8 +109,7 @@ fn read_body(s: &[u8], h: Header, c: Cursor, l: Lengths, w: &mut [i64]) -> Resul
         low,
         high,
     };
-    let d = body::read_lines(s, c, kind, r, series, values, l, w)?;
-    finish(s, d)
+    finish(s, body::read_lines(s, c, kind, r, series, values, l, w))
 }
 
 // Behind a header that nothing refuses: the lines, and where they are a whole sheet, the rooms.

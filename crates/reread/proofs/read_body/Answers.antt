@@ -1,9 +1,7 @@
 -- `reread::read_body` meets its contract: the lines behind line 1, and then the end of the text.
 -- Assumes nothing.
 use Rattle.std.proofs.Common.{refl, arith}
-use Rattle.std.proofs.lemmas.Result.{err_from_is_err_and}
-use Rattle.job.specs.Refusal.{refusal_verdict}
-use Rattle.sheet.proofs.Verdicts.{broken-says}
+use Rattle.sheet.proofs.Verdicts.{read_inside}
 use Rattle.sheet.proofs.Outcomes.{entered_limits}
 use Rattle.result.specs.ResultSheet.{result_forms}
 use Rattle.reread.proofs.Results.{result_forms_lem, result_awaited}
@@ -17,16 +15,10 @@ read_lines-requires c =
     let half = (entered_limits c.requires.0).half in
     result_awaited c.requires.0 _ refl (omega arith) (omega arith) c.requires.1
 
-pub returns-in_err-d : goal.returns-in_err-d
-unfolding refusal_verdict
-returns-in_err-d c =
-    let p = err_from_is_err_and c.from_residual.result c.from_residual.ensures.1 in
-    rw (p.1, p.2) (broken-says result_forms c.requires.0.opens (result_forms_lem c.args.h) c.in_err-d.ensures)
-
 pub finish-requires : goal.finish-requires
-finish-requires c = c.in_ok-d.ensures.placed
+finish-requires c = read_inside _ _ _ _ _ c.read_lines.result c.read_lines.ensures
 
 pub returns : goal.returns
 returns c =
     let h = c.args.h in
-    c.finish.ensures.bodied result_forms _ h _ _ _ _ c.requires.0.opens (result_forms_lem h) c.in_ok-d.ensures
+    c.finish.ensures.bodied result_forms _ h _ _ _ _ c.requires.0.opens (result_forms_lem h) c.read_lines.ensures

@@ -1,10 +1,8 @@
 -- `sheet::read_body` meets its contract: the lines behind line 1, and then the end of the text.
 -- Assumes nothing.
 use Rattle.std.proofs.Common.{refl, sym, arith}
-use Rattle.std.proofs.lemmas.Result.{err_from_is_err_and}
-use Rattle.job.specs.Refusal.{refusal_verdict}
 use Rattle.sheet.specs.JobSheet.{job_forms}
-use Rattle.sheet.proofs.Verdicts.{broken-says}
+use Rattle.sheet.proofs.Verdicts.{read_inside}
 use Rattle.sheet.proofs.Outcomes.{carried_all, job_forms_lem, entered_small}
 use Rattle.sheet.proofs.read_body.Goals as goal
 
@@ -24,13 +22,10 @@ read_lines-requires c =
       room = c.requires.2;
     }
 
-pub returns-in_err-d : goal.returns-in_err-d
-unfolding refusal_verdict
-returns-in_err-d c =
-    let p = err_from_is_err_and c.from_residual.result c.from_residual.ensures.1 in
-    rw (p.1, p.2) (broken-says job_forms c.requires.0.opens (job_forms_lem c.args.h) c.in_err-d.ensures)
+pub finish-requires : goal.finish-requires
+finish-requires c = read_inside _ _ _ _ _ c.read_lines.result c.read_lines.ensures
 
 pub returns : goal.returns
 returns c =
     c.finish.ensures.bodied job_forms _ c.args.h _ _ _ _ c.requires.0.opens (job_forms_lem c.args.h)
-    c.in_ok-d.ensures
+    c.read_lines.ensures
