@@ -2,16 +2,14 @@
 // answer comes back as one number, `packed` of specs/.
 #![tactic(auto)]
 
-ghost use Rattle.std.specs.Prelude.{◌≡◌, [], ◌∷◌, ℕ, ◌<◌};
-ghost use Rattle.job.specs.Refusal.{refusal_verdict, verdict_of};
-ghost use Rattle.job.specs.declared.Refusal.TheVariants.{Form};
+ghost use Rattle.std.specs.Prelude.{◌≡◌, [], ◌∷◌, ◌<◌};
+ghost use Rattle.job.specs.Refusal.{refused, verdict_of};
 ghost use Rattle.job.specs.Job.{buffers, words, bytes};
 ghost use Rattle.job.specs.declared.Kind.TheVariants.{System, Basis, Equation};
 ghost use Rattle.refusal.specs.Checked.{job_of};
 ghost use Rattle.header.specs.Header.{header};
 ghost use Rattle.sheet.specs.Read.{JobOutcome};
 ghost use Rattle.reread.specs.Read.{ResultOutcome};
-ghost use Rattle.result.specs.Print.{places_of};
 ghost use Rattle.pealvixen.specs.Packing.{packed, PackedOutcome};
 ghost use Rattle.pealvixen.specs.Sheets.{kind_number, told, told_written, ReadTold, WriteTold};
 ghost use Rattle.pealvixen.specs.Steps.{LineFits};
@@ -19,19 +17,13 @@ ghost use Rattle.pealvixen.specs.Steps.{LineFits};
 use job::{Header, Kind, Refusal};
 use result::Places;
 
-// The first place of a refusal, which is small: a line's number as asked, and a buffer's as a byte, which `Places` does
-// not show.
-#[tactic(auto, unfolding(result::specs::Print::places_of, job::specs::Refusal::refusal_verdict))]
-fn first_place(refusal: Refusal) -> u64
-    requires { (line : ℕ) → refusal ≡ Form line → line < 16777216 }
-    ensures is { result ≡ (places_of (refusal_verdict refusal)).1 }
-    ensures near { result < 16777216 }
+// A refusal's number and places as one number.
+#[tactic(auto, unfolding(crate::specs::Packing::packed))]
+fn join(number: u8, first: usize, second: u32) -> u64
+    requires { first < 16777216 }
+    ensures { result ≡ packed (refused number first second) }
 {
-    match refusal {
-        Refusal::Length { buffer } | Refusal::Word { buffer, .. } => u64::from(buffer),
-        Refusal::Form { line } => line as u64,
-        _ => 0,
-    }
+    u64::from(number) + 256 * (first as u64) + 4294967296 * u64::from(second)
 }
 
 // The answer as one number, whatever it carries when it is done.
@@ -42,8 +34,8 @@ fn pack<T: Copy>(answer: Result<T, Refusal>) -> u64
     match answer {
         Ok(_) => 0,
         Err(refusal) => {
-            let Places(number, _, second) = Places::from(refusal);
-            u64::from(number) + 256 * first_place(refusal) + 4294967296 * u64::from(second)
+            let Places(number, first, second) = result::place(Err(refusal));
+            join(number, first, second)
         }
     }
 }

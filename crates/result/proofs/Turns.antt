@@ -15,6 +15,12 @@ use Rattle.std.proofs.Common.{
   ◌^◌,
   arith,
   add-one,
+  suc,
+  take,
+  set,
+  get_or,
+  take-suc,
+  take_all,
   length,
   suc-mul,
 }
@@ -22,7 +28,7 @@ use Rattle.text.specs.Decimal.{digits, spell}
 use Rattle.text.specs.Lines.{items, line, lines}
 use Rattle.text.specs.Put.{Put}
 use Rattle.text.proofs.Lines.{items_snoc}
-use Rattle.text.proofs.Puts.{put_none, put_more, put_as}
+use Rattle.text.proofs.Puts.{put_none, put_one, put_more, put_as}
 use Rattle.lines.proofs.Forms.{word_digit}
 use Rattle.lines.specs.Forms.{numbered, row_forms, matrix_forms}
 use Rattle.result.specs.ResultSheet.{balanced_form}
@@ -34,6 +40,30 @@ use Rattle.result.proofs.Shift.{Same, items-shift, lines-shift, part_length, par
 use Rattle.result.proofs.Products.{stride}
 use Rattle.result.proofs.Forms.{rows_more, matrix_more}
 use Rattle.result.proofs.Room.{digits_room, items_room, rows_room, matrix_room}
+
+-- the first i bytes of h
+pub record BytesPut (h : List ℕ) (at : ℕ) (d₀ d : List ℕ) (i : ℕ) : Type 0 where
+  pub within : i ≤ length h
+  pub put : Put at (take i h) d₀ d (at + i)
+
+pub bytes_none : {h : List ℕ} {at : ℕ} {d₀ : List ℕ} → at + length h ≤ length d₀ → BytesPut h at d₀ d₀ 0
+bytes_none {at = at} {d₀ = d₀} room =
+    let e : at + 0 ≡ at = omega arith in
+    record { within = omega arith; put = rw e (put_none at d₀ (omega arith)) }
+
+module _ {h : List ℕ} {at : ℕ} {d₀ d : List ℕ} {i : ℕ} (so_far : BytesPut h at d₀ d i) where
+  pub bytes_room : at + length h ≤ length d₀ → i < length h → at + i < length d
+  bytes_room room more = omega (arith, so_far.put.long)
+
+  pub bytes_next
+      : at + length h ≤ length d₀ → i < length h → BytesPut h at d₀ (set d (at + i) (get_or h i 0)) (i + 1)
+  bytes_next room more =
+      let e : at + suc i ≡ at + i + 1 = omega arith in
+      let one = put_one (at + i) (get_or h i 0) d (bytes_room room more) in
+      record { within = omega arith; put = rw (add-one i, take-suc h i 0 more, e) (put_more so_far.put one) }
+
+  pub bytes_all : length h ≤ i → Put at h d₀ d (at + i)
+  bytes_all all = put_as (take_all i h all) so_far.put
 
 -- the numbers of the first k words of s
 pub record NumbersPut (p : ℕ) (s : List ℕ) (at : ℕ) (d₀ d : List ℕ) (e k : ℕ) : Type 0 where

@@ -2,8 +2,9 @@
 // answer is told by.
 #![tactic(auto)]
 
-ghost use Rattle.std.specs.Prelude.{◌≡◌, [], ◌∷◌, ◌++◌, ◌+◌, ◌*◌, ◌≤◌, ◌<◌, length};
+ghost use Rattle.std.specs.Prelude.{◌≡◌, [], ◌∷◌, ◌++◌, ℕ, ◌+◌, ◌*◌, ◌≤◌, ◌<◌, length, Err};
 ghost use Rattle.job.specs.Refusal.{refusal_verdict, verdict_of};
+ghost use Rattle.job.specs.declared.Refusal.TheVariants.{Form};
 ghost use Rattle.job.specs.declared.Kind.TheVariants.{System, Basis, Equation};
 ghost use Rattle.text.specs.Decimal.{digits, spell};
 ghost use Rattle.text.specs.Class.{balanced};
@@ -21,35 +22,34 @@ use job::{Header, Kind, Refusal};
 #[derive(Clone, Copy)]
 pub struct Places(pub u8, pub usize, pub u32);
 
-// The number and the places of a refusal: 0 where not named.
-impl From<Refusal> for Places {
-    ghost from_gives = { λ e q. q ≡ places_of (refusal_verdict e) };
-
-    #[tactic(auto, unfolding(crate::specs::Print::places_of, job::specs::Refusal::refusal_verdict))]
-    fn from(refusal: Refusal) -> Places {
-        match refusal {
-            Refusal::Order => Places(1, 0, 0),
-            Refusal::Terms => Places(2, 0, 0),
-            Refusal::Modulus => Places(3, 0, 0),
-            Refusal::TermsOverModulus => Places(4, 0, 0),
-            Refusal::Length { buffer } => Places(5, usize::from(buffer), 0),
-            Refusal::Word { buffer, index } => Places(6, usize::from(buffer), index),
-            Refusal::Singular => Places(7, 0, 0),
-            Refusal::LeadingZero => Places(8, 0, 0),
-            Refusal::Form { line } => Places(9, line, 0),
-            Refusal::Large => Places(10, 0, 0),
-        }
-    }
-}
-
-// The number and the places of an answer: three zeros for done.
-#[tactic(auto, unfolding(crate::specs::Print::places_of))]
+// The number and the places of an answer: 0 where not named, and three zeros for done. A first place fits a byte, but
+// for a broken line's number: it is below each bound from 256 up that such a number is below.
+#[tactic(auto, unfolding(crate::specs::Print::places_of, job::specs::Refusal::refusal_verdict))]
 pub fn place(a: Result<(), Refusal>) -> Places
-    ensures { result ≡ places_of (verdict_of a) }
+    ensures is { result ≡ places_of (verdict_of a) }
+    ensures near { (most : ℕ) → 256 ≤ most → ((line : ℕ) → a ≡ Err (Form line) → line < most) → result.1 < most }
 {
     match a {
         Ok(()) => Places(0, 0, 0),
-        Err(refusal) => Places::from(refusal),
+        Err(Refusal::Order) => Places(1, 0, 0),
+        Err(Refusal::Terms) => Places(2, 0, 0),
+        Err(Refusal::Modulus) => Places(3, 0, 0),
+        Err(Refusal::TermsOverModulus) => Places(4, 0, 0),
+        Err(Refusal::Length { buffer }) => Places(5, usize::from(buffer), 0),
+        Err(Refusal::Word { buffer, index }) => Places(6, usize::from(buffer), index),
+        Err(Refusal::Singular) => Places(7, 0, 0),
+        Err(Refusal::LeadingZero) => Places(8, 0, 0),
+        Err(Refusal::Form { line }) => Places(9, line, 0),
+        Err(Refusal::Large) => Places(10, 0, 0),
+    }
+}
+
+// The number and the places of a refusal.
+impl From<Refusal> for Places {
+    ghost from_gives = { λ e q. q ≡ places_of (refusal_verdict e) };
+
+    fn from(refusal: Refusal) -> Places {
+        place(Err(refusal))
     }
 }
 
@@ -58,9 +58,11 @@ pub fn put_bytes(d: &mut [u8], at: usize, h: &[u8]) -> usize
     requires { at + length h.now ≤ length d.old }
     ensures { Put at h.now d.old d.new result }
 {
-    let end = at + h.len();
-    d[at..end].copy_from_slice(h);
-    end
+    // Byte by byte, for the reason at `room::copy`.
+    for i in 0..h.len() {
+        d[at + i] = h[i];
+    }
+    at + h.len()
 }
 
 // A tab and the digits of x.
