@@ -1,7 +1,7 @@
 -- `newton::basis` meets its contract: what the checks refuse is refused, a Y0 with no inverse too, and any other job
 -- is run.
 -- Assumes nothing.
-use Rattle.std.proofs.Common.{◌≡◌, ◌∙◌, ℕ, Ok, arith, rules}
+use Rattle.std.proofs.Common.{◌≡◌, ◌∙◌, ℕ, true, false, is_ok, Ok, arith, rules}
 use lib.ListN.{length-replicate}
 use Rattle.std.proofs.lemmas.Result.{err_from_is_err_and}
 use Rattle.job.specs.Job.{Job, buffers, words}
@@ -12,8 +12,7 @@ use Rattle.job.proofs.Accepted.{Accepted, accepted}
 use Rattle.job.proofs.Outcomes.{checks_refused}
 use Rattle.refusal.specs.Checked.{job_of}
 use Rattle.newton.specs.Basis.{StartInverted}
-use Rattle.newton.proofs.Outcomes.{told_ok, told_err, modulus_small, startable, basis_singular, ready}
-use Rattle.newton.proofs.Outcomes.{basis_done}
+use Rattle.newton.proofs.Outcomes.{ok_done, modulus_small, startable, basis_singular, ready, basis_done}
 use Rattle.newton.proofs.basis.Goals as goal
 use Rattle.newton.proofs.basis.Goals.{In_ok-check_words, In_ok-map_err}
 
@@ -44,16 +43,19 @@ pub returns-in_err-map_err : goal.returns-in_err-map_err
 unfolding jobAt
 returns-in_err-map_err c =
     let p = err_from_is_err_and c.from_residual-in_err-map_err.result c.from_residual-in_err-map_err.ensures.1 in
-    let q = told_err _ c.invert_start.result c.map_err.ensures.cases c.in_err-map_err.was in
-    let singular : c.in_err-map_err.field-0.0 ≡ Singular = search (rules, q.2) in
+    let singular : c.in_err-map_err.field-0.0 ≡ Singular = search rules in
+    let told = rw c.in_err-map_err.was at c.map_err.ensures.variant in
+    let refused : is_ok c.invert_start.result ≡ false = cc told in
     rw (p.1, p.2, singular)
-    (basis_singular (admitted (goal.at.returns-in_err-map_err c).In_ok-check_words) (rw q.1 at c.invert_start.ensures))
+    (basis_singular (admitted (goal.at.returns-in_err-map_err c).In_ok-check_words) c.invert_start.ensures refused)
 
 -- Y0 has an inverse, where the elimination is not refused
 inverted : (c : In_ok-map_err) → let s = c.args in
     StartInverted s.p s.r s.y0.now c.invert_start.new.s (Ok tt)
 inverted c =
-    rw (told_ok _ c.invert_start.result c.map_err.ensures.cases c.in_ok-map_err.was) at c.invert_start.ensures
+    let told = rw c.in_ok-map_err.was at c.map_err.ensures.variant in
+    let done : is_ok c.invert_start.result ≡ true = cc told in
+    rw (ok_done c.invert_start.result done) at c.invert_start.ensures
 
 pub overflow_cast-p-2 : goal.overflow_cast-p-2
 unfolding jobAt
