@@ -1,9 +1,10 @@
 -- What the checks promise: an answer is the verdict of a list of rules, of all of a call's or of a part of them.
 -- Assumes nothing.
-use Rattle.std.specs.Prelude.{◌≡◌, List, map, ℕ, ◌*◌, ◌≤◌, length, get_or}
+use Rattle.std.specs.Prelude.{◌≡◌, refl, List, map, ℕ, ◌*◌, ◌≤◌, false, leb, length, get_or}
 use Rattle.job.specs.declared.Kind.{Kind}
+use Rattle.job.specs.declared.Kind.TheVariants.{Basis}
 use Rattle.job.specs.Refusal.{Rule, Says, Answer, verdict_of}
-use Rattle.job.specs.Job.{Job, Buffers, Handed, cells_of, lengths_of}
+use Rattle.job.specs.Job.{Job, Buffers, Handed, bytes, cells_of, read_count, lengths_of}
 use Rattle.job.specs.Rules.{check_rules, length_rules}
 
 -- an answer is the verdict of a list of rules
@@ -37,3 +38,12 @@ pub record Compared (cells : ℕ) (should are : List ℕ) (answer : Answer) : Ty
 pub record Readable (h : Handed) (count : ℕ) (s : List ℕ) : Type 0 where
   pub few : count ≤ 4194304
   pub within : cells_of h * count ≤ length s
+
+-- of bytes there are four to a word
+handed_example : cells_of bytes ≡ 4
+handed_example = refl
+
+-- a basis reads no word of a third buffer
+third_example : leb 3 (read_count Basis) ≡ false
+unfolding read_count
+third_example = refl
